@@ -1,0 +1,6 @@
+// Devices: what keeps sectors. A device is known by its meaning alone, and every layer above is proved against that.
+
+pub mod device;
+pub mod flat;
+pub mod lent;
+pub mod window;
