@@ -1,0 +1,4 @@
+pub mod Digits
+pub mod Overs
+pub mod Rows
+pub mod Slots

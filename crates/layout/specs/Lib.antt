@@ -1,0 +1,7 @@
+pub mod Bytes
+pub mod Descriptor
+pub mod Directory
+pub mod Identification
+pub mod Map
+pub mod Names
+pub mod Records
