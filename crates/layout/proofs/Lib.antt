@@ -1,4 +1,6 @@
+pub mod Clears
 pub mod Digits
+pub mod Marks
 pub mod Overs
 pub mod Rows
 pub mod Slots
