@@ -3,4 +3,5 @@ pub mod Digits
 pub mod Marks
 pub mod Overs
 pub mod Rows
+pub mod Segments
 pub mod Slots

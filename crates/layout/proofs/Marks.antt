@@ -24,6 +24,7 @@ length-marked (x ∷ y ∷ xs) = ap suc (length-marked (y ∷ xs))
 
 -- a byte of what was laid over is changed
 pub set-over : (p i v : ℕ) (bs xs : List ℕ) → p ≤ length xs → i < length bs → set (over p bs xs) (p + i) v ≡ over p (set bs i v) xs
+unfolding over
 set-over p i v bs xs fits lt =
     set-append-right (take p xs) (bs ++ drop (p + length bs) xs) p (p + i) v (length-take-le p xs fits) (omega arith)
     ∙ ap (λ j. take p xs ++ set (bs ++ drop (p + length bs) xs) j v) (omega arith)

@@ -17,6 +17,7 @@ put-record k w w′ xs ys bs e long is = rw e (put-is (k * w) ((k * w + w) - k *
 
 -- the record that was written
 pub record-here : (k w : ℕ) (bs xs : List ℕ) → k * w + w ≤ length xs → length bs ≡ w → record-at w k (over (k * w) bs xs) ≡ bs
+unfolding over
 record-here k w bs xs fits long =
     ap (take w) (drop-at (take (k * w) xs) (bs ++ drop (k * w + length bs) xs) (k * w) (length-take-le (k * w) xs (omega arith)))
     ∙ take-at bs (drop (k * w + length bs) xs) w long

@@ -14,7 +14,7 @@ bytes zero n = []
 bytes (suc w) n = bytes w (n / 256) ++ (n % 256) ∷ []
 
 -- bytes with bs in place of those from an offset on
-abbrev pub over : ℕ → List ℕ → List ℕ → List ℕ
+unfoldable pub over : ℕ → List ℕ → List ℕ → List ℕ
 over at bs xs = take at xs ++ (bs ++ drop (at + length bs) xs)
 
 -- a field of a sector: its offset, and its bytes

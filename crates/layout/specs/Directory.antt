@@ -3,9 +3,9 @@ use mathlib.Core.Bool.{cond}
 use mathlib.Core.List.{List, [], _∷_, _++_, map}
 use Prim.Native.Nat.{ℕ, _*_, _/_}
 use lib.Dec.{eqb}
-use lib.ListN.{length, take, drop, getD}
+use lib.ListN.{length, take, getD, replicate}
 use Rattle.std.specs.Iters.{counting}
-use Rattle.layout.specs.Bytes.{number, bytes}
+use Rattle.layout.specs.Bytes.{number, bytes, over}
 use Rattle.layout.specs.Names.{name-of}
 use Rattle.layout.specs.Records.{record-at}
 use Rattle.layout.specs.declared.stored_slot.StoredSlot.{StoredSlot}
@@ -27,6 +27,10 @@ slot xs = cond (eqb (getD xs 0 0) 0) empty (entry (name-of (stored-slot xs .name
 abbrev pub slots : List ℕ → List Slot
 slots xs = map (λ k. slot (record-at 32 k xs)) (counting 0 (length xs / 32))
 
--- a slot as it is stored, with the bytes of its name
+-- a stored name in the 28 bytes of a slot, with zeros behind it
+abbrev pub slot-name : List ℕ → List ℕ
+slot-name stored = over 0 stored (replicate 28 0)
+
+-- a slot as it is stored, with the 28 bytes of its name
 abbrev pub slot-bytes : List ℕ → ℕ → List ℕ
 slot-bytes stored lsn = stored ++ (0 ∷ bytes 3 lsn)

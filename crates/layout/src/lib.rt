@@ -1,6 +1,7 @@
 // The layout of a volume in its sectors: numbers, records, names and the allocation map, read and written by their definitions.
 
 pub mod bitmap;
+pub mod descriptor;
 pub mod directory_entry;
 pub mod names;
 pub mod numbers;

@@ -1,0 +1,4 @@
+use Rattle.volume.proofs.new_sectors.new_identification.Needs as need
+
+pub returns : need.returns
+returns c = cc

@@ -1,0 +1,36 @@
+-- Refusals of the volume layer: number, place and first layer.
+use Prim.Native.Nat.{ℕ}
+use Rattle.std.specs.declared.result.Result.{Result}
+use Rattle.std.specs.declared.result.Result.the-variants.{Ok, Err}
+use Rattle.devices.specs.declared.device.DeviceFault.{DeviceFault}
+use Rattle.volume.specs.declared.fault.Layer.{Layer}
+use Rattle.volume.specs.declared.fault.Layer.the-variants.{Devices, Volume}
+use Rattle.volume.specs.declared.fault.Part.{Part}
+use Rattle.volume.specs.declared.fault.Reading.{Reading}
+use Rattle.volume.specs.declared.fault.VolumeFault.{VolumeFault}
+use Rattle.volume.specs.declared.fault.VolumeFault.the-variants.{Device, Refused}
+use Rattle.volume.specs.declared.fault.VolumeRefusal.{VolumeRefusal}
+use Rattle.volume.specs.declared.fault.VolumeRefusal.the-variants.{Arguments}
+
+-- a device's refusal becomes the volume's, whole
+abbrev pub asVolume : Reading → VolumeFault
+asVolume r = Device (r .part) (r .fault)
+
+abbrev pub carried : {X : Type 0} → Result X DeviceFault → Part → Result X Reading
+carried (Ok x) p = Ok x
+carried (Err f) p = Err (record { part = p; fault = f })
+
+abbrev pub refusal-number : VolumeRefusal → ℕ
+refusal-number Arguments = 20
+
+abbrev pub numberOf : VolumeFault → ℕ
+numberOf (Device p f) = 14
+numberOf (Refused r at) = refusal-number r
+
+abbrev pub placeOf : VolumeFault → ℕ
+placeOf (Device p f) = f .lsn
+placeOf (Refused r at) = at
+
+abbrev pub layerOf : VolumeFault → Layer
+layerOf (Device p f) = Devices
+layerOf (Refused r at) = Volume
