@@ -11,6 +11,7 @@ use super::segment_entry::SegmentRecord;
 
 // Where the segment list of a descriptor begins, and how many entries it has: it ends with the sector.
 pub const SEGMENTS_AT: usize = 16;
+
 pub const SEGMENTS: usize = 48;
 
 // The entry k of a descriptor's segment list.

@@ -1,12 +1,14 @@
 -- Format: what it asks, what it leaves, and what it refuses.
 use mathlib.Core.Path.{_≡_}
-use mathlib.Core.Bool.{true, false}
+use mathlib.Core.Bool.{true, false, cond}
+use lib.Dec.{eqb, leb}
 use mathlib.Core.List.{List}
 use Prim.Native.Nat.{ℕ, _+_, _<_, _≤_}
 use Rattle.std.specs.declared.result.Result.{Result}
 use Rattle.std.specs.declared.result.Result.the-variants.{Ok, Err}
 use Rattle.devices.specs.Meaning.{Meaning, Kept, Same}
 use Rattle.devices.specs.declared.device.Cause.the-variants.{Bad}
+use Rattle.devices.specs.declared.device.DeviceFault.{DeviceFault}
 use Rattle.layout.specs.Map.{map-sectors, map-sector}
 use Rattle.layout.specs.Names.{VolumeName}
 use Rattle.volume.specs.NewVolume.{root-of, slots-of, new-identification, taken-first, new-root, new-slots}
@@ -30,6 +32,15 @@ pub record Lawful (m : Meaning) (T : ℕ) (name : List ℕ) (a : ℕ) : Type 0 w
 abbrev pub GoodTo : Meaning → ℕ → Type 0
 GoodTo m n = (k : ℕ) → k ≤ n → m .bad k ≡ false
 
+-- the part of a new volume that the sector l belongs to
+abbrev pub part-of : ℕ → ℕ → Part
+part-of T l = cond (eqb l 0) part.Identification (cond (leb l (map-sectors T)) part.Map (cond (eqb l (root-of T)) part.Descriptor part.Directory))
+
+-- the map is laid up to the map sector n, and every other sector is as it was
+pub record MapLaid (m m′ : Meaning) (T n : ℕ) : Type 0 where
+  pub kept : Kept (λ k. (1 ≤ k) → (k ≤ n) → ⊥) m m′
+  pub map : (j : ℕ) → j < n → m′ .sector (1 + j) ≡ map-sector (taken-first m T) j
+
 -- what format leaves: every sector up to the root's slots is the new volume's, and every other one is as it was
 pub record Formatted (m m′ : Meaning) (T : ℕ) (name : List ℕ) : Type 0 where
   pub kept : Kept (λ k. slots-of T < k) m m′
@@ -52,8 +63,18 @@ pub record FirstBad (m : Meaning) (T l : ℕ) : Type 0 where
   pub bad : m .bad l ≡ true
   pub first : (k : ℕ) → k < l → m .bad k ≡ false
 
+-- a bad sector among those, as the device and the part that was being read say it
+abbrev pub BadSector : Meaning → ℕ → Part → DeviceFault → Type 0
+BadSector m T p f = (f .cause ≡ Bad) × FirstBad m T (f .lsn) × (p ≡ part-of T (f .lsn))
+
+-- the answer to the question whether all of them are good
+abbrev pub GoodAnswer : Meaning → ℕ → Result Unit VolumeFault → Type 0
+GoodAnswer m T (Ok u) = GoodTo m (slots-of T)
+GoodAnswer m T (Err (Device p f)) = BadSector m T p f
+GoodAnswer m T (Err (Refused r at)) = ⊥
+
 abbrev pub FormatRefuses : Meaning → ℕ → List ℕ → ℕ → VolumeFault → Type 0
-FormatRefuses m T name a (Device p f) = Lawful m T name a × (f .cause ≡ Bad) × FirstBad m T (f .lsn)
+FormatRefuses m T name a (Device p f) = Lawful m T name a × BadSector m T p f
 FormatRefuses m T name a (Refused r at) = (r ≡ Arguments) × (at ≡ 0) × (Lawful m T name a → ⊥)
 
 abbrev pub FormatDone : Meaning → Meaning → ℕ → List ℕ → ℕ → Result Volume VolumeFault → Type 0

@@ -21,13 +21,13 @@ slots-of T = map-sectors T + 2
 -- LSN 0
 abbrev pub new-identification : ℕ → List ℕ → List ℕ
 new-identification T name = laid
-  ( record { at = 0x00; holds = bytes 3 T }
-  ∷ record { at = 0x04; holds = bytes 2 (map-bytes-of T) }
-  ∷ record { at = 0x06; holds = bytes 2 1 }
-  ∷ record { at = 0x08; holds = bytes 3 (root-of T) }
-  ∷ record { at = 0x0D; holds = 0xBF ∷ [] }
-  ∷ record { at = 0x1F; holds = marked name }
-  ∷ [] )
+    (record { at = 0x00; holds = bytes 3 T }
+    ∷ record { at = 0x04; holds = bytes 2 (map-bytes-of T) }
+    ∷ record { at = 0x06; holds = bytes 2 1 }
+    ∷ record { at = 0x08; holds = bytes 3 (root-of T) }
+    ∷ record { at = 0x0D; holds = 0xBF ∷ [] }
+    ∷ record { at = 0x1F; holds = marked name }
+    ∷ [])
 
 -- the sectors that the map has as taken: those that are written, the bad ones, and all from T on
 abbrev pub taken-first : Meaning → ℕ → ℕ → Bool
@@ -36,11 +36,11 @@ taken-first m T k = leb k (slots-of T) || (leb T k || m .bad k)
 -- the root's descriptor: a directory of 64 bytes in one sector
 abbrev pub new-root : ℕ → List ℕ
 new-root T = laid
-  ( record { at = 0; holds = 0xBF ∷ [] }
-  ∷ record { at = 8; holds = 1 ∷ [] }
-  ∷ record { at = 9; holds = bytes 4 64 }
-  ∷ record { at = 16; holds = segment-bytes (record { start = slots-of T; len = 1 }) }
-  ∷ [] )
+    (record { at = 0; holds = 0xBF ∷ [] }
+    ∷ record { at = 8; holds = 1 ∷ [] }
+    ∷ record { at = 9; holds = bytes 4 64 }
+    ∷ record { at = 16; holds = segment-bytes (record { start = slots-of T; len = 1 }) }
+    ∷ [])
 
 -- "." and ".." as they are stored
 abbrev pub here : List ℕ
@@ -52,6 +52,6 @@ up = 0x2E ∷ 0xAE ∷ []
 -- the root's slots: both name the root
 abbrev pub new-slots : ℕ → List ℕ
 new-slots T = laid
-  ( record { at = 0; holds = slot-bytes (slot-name here) (root-of T) }
-  ∷ record { at = 32; holds = slot-bytes (slot-name up) (root-of T) }
-  ∷ [] )
+    (record { at = 0; holds = slot-bytes (slot-name here) (root-of T) }
+    ∷ record { at = 32; holds = slot-bytes (slot-name up) (root-of T) }
+    ∷ [])

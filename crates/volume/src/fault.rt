@@ -42,8 +42,14 @@ pub struct Reading {
 // A refusal of the volume layer: its own, with its place, or a device's, whole.
 #[derive(Clone, Copy, Debug)]
 pub enum VolumeFault {
-    Device { part: Part, fault: DeviceFault },
-    Refused { refusal: VolumeRefusal, place: usize },
+    Device {
+        part: Part,
+        fault: DeviceFault,
+    },
+    Refused {
+        refusal: VolumeRefusal,
+        place: usize,
+    },
 }
 
 impl VolumeRefusal {
@@ -80,7 +86,10 @@ impl VolumeFault {
     {
         match self {
             VolumeFault::Device { part: _, fault: _ } => Layer::Devices,
-            VolumeFault::Refused { refusal: _, place: _ } => Layer::Volume,
+            VolumeFault::Refused {
+                refusal: _,
+                place: _,
+            } => Layer::Volume,
         }
     }
 }
@@ -89,7 +98,10 @@ pub impl From<Reading> for VolumeFault as VolumeFaultFromReading {
     ghost converts = { λ x y. y ≡ asVolume x };
 
     fn from(value: Reading) -> VolumeFault {
-        VolumeFault::Device { part: value.part, fault: value.fault }
+        VolumeFault::Device {
+            part: value.part,
+            fault: value.fault,
+        }
     }
 }
 

@@ -1,6 +1,7 @@
 // The volume layer: what a volume's record holds, and how a volume is made.
 
 pub mod fault;
+pub mod format;
 pub mod new_map;
 pub mod new_sectors;
 pub mod open_paths;

@@ -27,6 +27,7 @@ pub const ROOT_ATTRIBUTE: u8 = 0xBF;
 
 // "." and ".." as they are stored, bit 7 set on the last byte.
 pub const HERE: [u8; 1] = *b"\xae";
+
 pub const UP: [u8; 2] = *b".\xae";
 
 // The LSN of the root's descriptor.
@@ -70,7 +71,14 @@ pub fn new_root(total: usize) -> [u8; SECTOR]
     put(&mut sector, 0, &[ROOT_ATTRIBUTE]);
     put(&mut sector, 8, &[1]);
     put(&mut sector, 9, &four_bytes(64));
-    put_segment(&mut sector, 0, &Segment { start: slots_lsn(total), len: 1 });
+    put_segment(
+        &mut sector,
+        0,
+        &Segment {
+            start: slots_lsn(total),
+            len: 1,
+        },
+    );
     sector
 }
 
@@ -91,7 +99,21 @@ pub fn new_slots(total: usize) -> [u8; SECTOR]
 {
     let lsn = root_lsn(total);
     let mut sector = [0u8; SECTOR];
-    put_nth::<DirectoryEntry>(&mut sector, 0, &StoredSlot { name: in_slot(&HERE), lsn });
-    put_nth::<DirectoryEntry>(&mut sector, 1, &StoredSlot { name: in_slot(&UP), lsn });
+    put_nth::<DirectoryEntry>(
+        &mut sector,
+        0,
+        &StoredSlot {
+            name: in_slot(&HERE),
+            lsn,
+        },
+    );
+    put_nth::<DirectoryEntry>(
+        &mut sector,
+        1,
+        &StoredSlot {
+            name: in_slot(&UP),
+            lsn,
+        },
+    );
     sector
 }

@@ -32,8 +32,16 @@ impl OpenPaths {
     pub(crate) fn none() -> OpenPaths
         ensures { λ r. ⌜ r .count ≡ 0 ⌝ }
     {
-        let closed = OpenPath { number: 0, kind: PathKind::Read, descriptor: 0, position: 0 };
-        OpenPaths { places: [closed; MOST], count: 0 }
+        let closed = OpenPath {
+            number: 0,
+            kind: PathKind::Read,
+            descriptor: 0,
+            position: 0,
+        };
+        OpenPaths {
+            places: [closed; MOST],
+            count: 0,
+        }
     }
 
     pub fn len(&self) -> usize

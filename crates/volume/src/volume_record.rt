@@ -17,7 +17,13 @@ impl Volume {
     pub(crate) fn unopened(total: usize, root: usize, allocation: usize) -> Volume
         ensures { λ r. ⌜ (r .total ≡ total) × (r .root ≡ root) × (r .allocation ≡ allocation) × (r .paths .count ≡ 0) × (r .opened ≡ 0) ⌝ }
     {
-        Volume { total, root, allocation, paths: OpenPaths::none(), opened: 0 }
+        Volume {
+            total,
+            root,
+            allocation,
+            paths: OpenPaths::none(),
+            opened: 0,
+        }
     }
 
     // How many sectors the volume has.

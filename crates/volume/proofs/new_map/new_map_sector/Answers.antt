@@ -12,9 +12,10 @@ pub loop-i-again : need.loop-i-again
 loop-i-again g c =
     let f : ℕ → ℕ = λ k. packed (taken-first (g .D·Device .meaning (c .args .device .now)) (c .args .total)) (c .args .index * 2048 + k * 8) 8 in
     let xs = c .loop-i .sector in
-    let i = c .loop-i .i in
-    ( length-set xs i _ ∙ c .loop-i .inv .0
-    , λ k h. ap (λ v. getD (set xs i v) k 0) (c .map-byte .ensures) ∙ fill-by-more f xs i 0 (omega (arith, c .loop-i .inv .0)) (c .loop-i .inv .1) k h )
+    let i = c .loop-i .i in (
+      length-set xs i _ ∙ c .loop-i .inv .0,
+      λ k h. ap (λ v. getD (set xs i v) k 0) (c .map-byte .ensures) ∙ fill-by-more f xs i 0 (omega (arith, c .loop-i .inv .0)) (c .loop-i .inv .1) k h,
+    )
 
 pub returns : need.returns
 returns g c =

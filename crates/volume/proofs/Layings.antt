@@ -1,0 +1,75 @@
+-- The sectors of a new volume, laid one after the other.
+use mathlib.Core.Path.{_≡_, refl, sym, ap, ap₂, _∙_}
+use mathlib.Core.Bool.{Bool, true, false, cond, _||_}
+use mathlib.Core.List.{List, [], _∷_, map}
+use mathlib.Core.Logic.{_⊎_, inl, inr}
+use Prim.Native.Nat.{ℕ, zero, suc, _+_, _*_, _<_, _≤_}
+use native.Mathlib.Omega.{arith}
+use lib.Dec.{leb}
+use Rattle.std.specs.Iters.{counting}
+use Rattle.std.proofs.shelf.Tests.{cases-eq}
+use Rattle.std.proofs.shelf.Ways.{tells}
+use Rattle.devices.specs.Meaning.{Meaning, Kept}
+use Rattle.layout.specs.Map.{packed, map-sector, map-sectors}
+use Rattle.volume.specs.NewVolume.{root-of, slots-of, new-identification, new-root, new-slots, taken-first}
+use Rattle.volume.specs.Formatting.{MapLaid, Formatted}
+use Rattle.volume.proofs.Keeps.{kept-then, kept-of}
+
+-- a map sector is settled by the bits
+packed-same : (f g : ℕ → Bool) → ((k : ℕ) → f k ≡ g k) → (k n : ℕ) → packed f k n ≡ packed g k n
+unfolding packed
+packed-same f g h k zero = refl
+packed-same f g h k (suc n) = ap₂ (λ (a : ℕ) (b : Bool). a * 2 + cond {A = ℕ} b 1 0) (packed-same f g h k n) (h (k + n))
+
+map-same : (f g : ℕ → ℕ) → ((k : ℕ) → f k ≡ g k) → (xs : List ℕ) → map f xs ≡ map g xs
+map-same f g h [] = refl
+map-same f g h (x ∷ xs) = ap₂ _∷_ (h x) (map-same f g h xs)
+
+pub map-sector-same : (f g : ℕ → Bool) → ((k : ℕ) → f k ≡ g k) → (j : ℕ) → map-sector f j ≡ map-sector g j
+map-sector-same f g h j = map-same _ _ (λ i. packed-same f g h (j * 2048 + i * 8) 8) (counting 0 256)
+
+or-same : (a b x y : Bool) → (b ≡ false → x ≡ y) → (a || (b || x)) ≡ (a || (b || y))
+or-same true b x y h = refl
+or-same false true x y h = refl
+or-same false false x y h = h refl
+
+below : (T k : ℕ) → leb T k ≡ false → k < T
+below T k h = grind (arith, tells)
+
+-- what the map has as taken is the same while the bad sectors stay
+pub taken-kept : (P : ℕ → Type 0) (m m′ : Meaning) (T : ℕ) → Kept P m m′ → T ≤ m .count → (k : ℕ) → taken-first m′ T k ≡ taken-first m T k
+taken-kept P m m′ T x fits k = or-same (leb k (slots-of T)) (leb T k) (m′ .bad k) (m .bad k) (λ e. x .1 k (omega (arith, below T k e)))
+
+-- one map sector more
+pub map-more : (m m₁ m₂ : Meaning) (T n : ℕ) (s : List ℕ) → T ≤ m .count → 1 + n < m .count → MapLaid m m₁ T n → Kept (λ k. k ≡ 1 + n → ⊥) m₁ m₂ → m₂ .sector (1 + n) ≡ s → s ≡ map-sector (taken-first m₁ T) n → MapLaid m m₂ T (n + 1)
+map-more m m₁ m₂ T n s fits low laid kept here is =
+    record {
+      kept = kept-of _ _ m m₂ (λ k out. (λ a b. out a (omega arith), λ e. out (omega arith) (omega arith))) (kept-then _ _ m m₁ m₂ (laid .kept) kept);
+      map = λ j lt. elim (cases-eq j n) [
+        | inl e ↦ rw e (here ∙ is ∙ map-sector-same _ _ (taken-kept _ m m₁ T (laid .kept) fits) n)
+        | inr ne ↦ kept .2 (1 + j) (omega (arith, laid .kept .0)) (λ e. ne (omega arith)) ∙ laid .map j (omega arith)
+      ];
+    }
+
+-- the map, then the root's descriptor, its slots, and the identification sector
+pub all-laid : (m m₁ m₂ m₃ m₄ : Meaning) (T : ℕ) (name : List ℕ) → slots-of T < m .count
+    → MapLaid m m₁ T (map-sectors T)
+    → Kept (λ k. k ≡ root-of T → ⊥) m₁ m₂ → m₂ .sector (root-of T) ≡ new-root T
+    → Kept (λ k. k ≡ slots-of T → ⊥) m₂ m₃ → m₃ .sector (slots-of T) ≡ new-slots T
+    → Kept (λ k. k ≡ 0 → ⊥) m₃ m₄ → m₄ .sector 0 ≡ new-identification T name
+    → Formatted m m₄ T name
+all-laid m m₁ m₂ m₃ m₄ T name fits laid k₂ root k₃ slots k₄ zeroth =
+    let n₁ = laid .kept .0 in
+    let n₂ = k₂ .0 in
+    let n₃ = k₃ .0 in
+    record {
+      kept =
+          kept-of _ _ m m₄
+          (λ k above. (((λ a b. omega arith, λ e. omega arith), λ e. omega arith), λ e. omega arith))
+          (kept-then _ _ m m₃ m₄ (kept-then _ _ m m₂ m₃ (kept-then _ _ m m₁ m₂ (laid .kept) k₂) k₃) k₄);
+      identification = zeroth;
+      map = λ j lt.
+          k₄ .2 (1 + j) (omega arith) (λ e. omega arith) ∙ k₃ .2 (1 + j) (omega arith) (λ e. omega arith) ∙ k₂ .2 (1 + j) (omega arith) (λ e. omega arith) ∙ laid .map j lt;
+      root = k₄ .2 (root-of T) (omega arith) (λ e. omega arith) ∙ k₃ .2 (root-of T) (omega arith) (λ e. omega arith) ∙ root;
+      slots = k₄ .2 (slots-of T) (omega arith) (λ e. omega arith) ∙ slots;
+    }
