@@ -1,5 +1,7 @@
+pub mod Bits
 pub mod Clears
 pub mod Digits
+pub mod Lays
 pub mod Marks
 pub mod Overs
 pub mod Rows
