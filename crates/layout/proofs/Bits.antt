@@ -22,14 +22,15 @@ pub packed-bit : (f : ℕ → Bool) (k n p : ℕ) → p < n → packed f k n / 2
 unfolding packed
 packed-bit f k zero p lt = absurd (omega arith)
 packed-bit f k (suc n) p lt = elim (cases-eq p n) [
-    inl e ↦
+  | inl e ↦
       let z : suc n - 1 - p ≡ 0 = omega arith in
       rw z (rw e (omega (arith, one (f (k + n)))))
   | inr ne ↦
       let less : p < n = omega arith in
       let z : suc n - 1 - p ≡ suc (n - 1 - p) = omega arith in
       let half : (packed f k n * 2 + cond {A = ℕ} (f (k + n)) 1 0) / 2 ≡ packed f k n = omega (arith, one (f (k + n))) in
-      rw (z, pow-succ') (rw (sym (div-div-eq-div-mul (packed f k n * 2 + cond {A = ℕ} (f (k + n)) 1 0) 2 (2 ^ (n - 1 - p)))) (rw half (packed-bit f k n p less))) ]
+      rw (z, pow-succ') (rw (sym (div-div-eq-div-mul (packed f k n * 2 + cond {A = ℕ} (f (k + n)) 1 0) 2 (2 ^ (n - 1 - p)))) (rw half (packed-bit f k n p less)))
+]
 
 test : (b : Bool) → eqb (cond {A = ℕ} b 1 0) 1 ≡ b
 test true = refl

@@ -38,8 +38,9 @@ number-apart at w xs (f ∷ fs) n long within apart =
     let fits : f .at + length (f .holds) ≤ length xs = omega (arith, within .0) in
     number-apart at w (over (f .at) (f .holds) xs) fs n (length-over (f .at) (f .holds) xs fits ∙ long) (within .1) (apart .1)
     ∙ elim (apart .0) [
-        inl low ↦ number-below (f .at) (f .holds) xs fits at w low
-      | inr high ↦ number-above (f .at) (f .holds) xs fits at w high ]
+      | inl low ↦ number-below (f .at) (f .holds) xs fits at w low
+      | inr high ↦ number-above (f .at) (f .holds) xs fits at w high
+    ]
 
 -- a field is read back
 pub number-held : (at w v : ℕ) → v < 256 ^ w → (xs : List ℕ) (fs : List Field) (n : ℕ) → length xs ≡ n → Inside n fs → Holds at w v fs → number at w (laid-over xs fs) ≡ v
@@ -48,17 +49,19 @@ number-held at w v small xs (f ∷ fs) n long within held =
     let fits : f .at + length (f .holds) ≤ length xs = omega (arith, within .0) in
     let long′ = length-over (f .at) (f .holds) xs fits ∙ long in
     elim held [
-      inl here ↦
-        number-apart at w (over (f .at) (f .holds) xs) fs n long′ (within .1) (here .2)
-        ∙ ap (λ p. number p w (over (f .at) (f .holds) xs)) (sym (here .0))
-        ∙ number-over (f .at) (f .holds) xs fits w v (here .1) small
-    | inr there ↦ number-held at w v small (over (f .at) (f .holds) xs) fs n long′ (within .1) there ]
+      | inl here ↦
+          number-apart at w (over (f .at) (f .holds) xs) fs n long′ (within .1) (here .2)
+          ∙ ap (λ p. number p w (over (f .at) (f .holds) xs)) (sym (here .0))
+          ∙ number-over (f .at) (f .holds) xs fits w v (here .1) small
+      | inr there ↦ number-held at w v small (over (f .at) (f .holds) xs) fs n long′ (within .1) there
+    ]
 
 -- a number in zeros is 0
 getD-zeros : (n k : ℕ) → _≡_ {A = ℕ} (getD (replicate n 0) k 0) 0
 getD-zeros n k = elim (cases-lt k n) [
-    inl lt ↦ getD-replicate n k 0 0 lt
-  | inr le ↦ getD-past (replicate n 0) k 0 (omega (arith, length-replicate {A = ℕ} n 0)) ]
+  | inl lt ↦ getD-replicate n k 0 0 lt
+  | inr le ↦ getD-past (replicate n 0) k 0 (omega (arith, length-replicate {A = ℕ} n 0))
+]
 
 pub number-zeros : (at w n : ℕ) → number at w (replicate n 0) ≡ 0
 unfolding number

@@ -5,9 +5,10 @@ use mathlib.Core.Logic.{_⊎_, inl, inr}
 use Prim.Native.Nat.{ℕ, _+_, _-_, _<_, _≤_}
 use native.Mathlib.Omega.{arith}
 use lib.ListN.{length, take, drop, getD, length-take, length-drop, length-append}
+use lib.Seq.{take-append-add}
 use borrow.Rule.Slice.PartMut.{putMid}
 use borrow.Author.Needs.{needs}
-use Rattle.std.proofs.shelf.Lists.{same-lists, places, drop-drop, getD-append-left, getD-append-right, getD-take, getD-drop, length-take-le}
+use Rattle.std.proofs.shelf.Lists.{append-assoc, same-lists, places, take-at, drop-at, drop-drop, getD-append-left, getD-append-right, getD-take, getD-drop, length-take-le}
 use Rattle.layout.specs.Bytes.{over}
 
 -- a write into s[p..p + k], as the checker shows it
@@ -48,3 +49,29 @@ module _ (p : ℕ) (bs xs : List ℕ) (fits : p + length bs ≤ length xs) where
 pub over-part : (p k q : ℕ) (bs xs : List ℕ) → p + k ≤ length xs → q + length bs ≤ k → putMid p k xs (over q bs (take k (drop p xs))) ≡ over (p + q) bs xs
 unfolding over
 over-part p k q bs xs fits inside = same-lists _ _ (search (needs, places)) (λ i d h. grind (arith, places))
+
+-- the part from where bytes were laid
+pub part-over : (p w : ℕ) (bs xs : List ℕ) → p ≤ length xs → length bs ≤ w → take w (drop p (over p bs xs)) ≡ bs ++ take (w - length bs) (drop (p + length bs) xs)
+unfolding over
+part-over p w bs xs fits short =
+    let whole : w ≡ length bs + (w - length bs) = omega arith in
+    ap (take w) (drop-at (take p xs) (bs ++ drop (p + length bs) xs) p (length-take-le p xs fits))
+    ∙ ap (λ n. take n (bs ++ drop (p + length bs) xs)) whole
+    ∙ take-append-add bs (drop (p + length bs) xs) (w - length bs)
+
+-- what stands before it
+pub take-over : (p : ℕ) (bs xs : List ℕ) → p ≤ length xs → take p (over p bs xs) ≡ take p xs
+unfolding over
+take-over p bs xs fits = take-at (take p xs) (bs ++ drop (p + length bs) xs) p (length-take-le p xs fits)
+
+-- bytes laid where others end
+pub over-over : (p q : ℕ) (a b xs : List ℕ) → q ≡ p + length a → q ≤ length xs → over q b (over p a xs) ≡ over p (a ++ b) xs
+unfolding over
+over-over p q a b xs e h =
+    let n : length (take p xs ++ a) ≡ q = length-append (take p xs) a ∙ omega (arith, length-take-le p xs (omega arith)) in
+    let r : drop (p + length a) xs ≡ drop q xs = ap (λ k. drop k xs) (sym e) in
+    let s : q + length b ≡ p + length (a ++ b) = omega (arith, length-append a b) in
+    ap (over q b) (sym (append-assoc (take p xs) a (drop (p + length a) xs)) ∙ ap (λ l. (take p xs ++ a) ++ l) r)
+    ∙ ap₂ (λ u v. u ++ (b ++ v)) (take-at (take p xs ++ a) (drop q xs) q n)
+    (sym (drop-drop (length b) q ((take p xs ++ a) ++ drop q xs)) ∙ ap (drop (length b)) (drop-at (take p xs ++ a) (drop q xs) q n) ∙ drop-drop (length b) q xs ∙ ap (λ k. drop k xs) s)
+    ∙ simp append-assoc

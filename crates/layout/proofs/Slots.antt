@@ -3,11 +3,13 @@ use mathlib.Core.Path.{_≡_, refl, sym, ap, ap₂, _∙_}
 use mathlib.Core.List.{List, [], _∷_, _++_}
 use Prim.Native.Nat.{ℕ, suc, _+_, _-_, _<_, _≤_, _^_}
 use native.Mathlib.Omega.{arith}
+use borrow.Author.Tests.{ne-eqb}
 use lib.ListN.{length, take, drop, getD, length-append, length-drop}
 use borrow.Rule.Slice.PartMut.{putMid, postOf}
-use Rattle.std.proofs.shelf.Lists.{append-nil, take-at, drop-at, drop-all, getD-append-right}
+use Rattle.std.proofs.shelf.Lists.{append-nil, take-at, drop-at, drop-all, getD-append-left, getD-append-right}
 use Rattle.layout.specs.Bytes.{number, bytes}
-use Rattle.layout.specs.Directory.{stored-slot, slot-bytes}
+use Rattle.layout.specs.Names.{name-of}
+use Rattle.layout.specs.Directory.{entry, slot, stored-slot, slot-bytes}
 use Rattle.layout.specs.declared.stored_slot.StoredSlot.{StoredSlot}
 use Rattle.layout.proofs.Digits.{length-bytes, number-same, number-bytes}
 
@@ -39,3 +41,10 @@ pub parts-are : (xs ys zs n r : List ℕ) → length xs ≡ 32 → ys ≡ n → 
 parts-are xs ys zs n r l e m f =
     let none : drop 4 (drop 28 xs) ≡ [] = drop-all 4 (drop 28 xs) (simp length-drop (omega arith)) in
     rw (e, f, take-at n (drop 28 xs) 28 m, drop-at n (drop 28 xs) 28 m, none, append-nil)
+
+-- a stored slot that is used
+pub slot-entry : (n : List ℕ) (l : ℕ) (letters : List ℕ) → length n ≡ 28 → l < 2 ^ 24 → (getD n 0 0 ≡ 0 → ⊥) → name-of n ≡ letters → slot (slot-bytes n l) ≡ entry letters l
+slot-entry n l letters long small some named =
+    let back = slot-back n l long small in
+    let first : getD (slot-bytes n l) 0 0 ≡ getD n 0 0 = getD-append-left n (0 ∷ bytes 3 l) 0 0 (omega arith) in
+    rw (first, ne-eqb (getD n 0 0) 0 some) (ap₂ entry (ap (λ (s : StoredSlot). name-of (s .name)) back ∙ named) (ap (λ (s : StoredSlot). s .lsn) back))

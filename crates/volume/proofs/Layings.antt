@@ -10,9 +10,9 @@ use Rattle.std.specs.Iters.{counting}
 use Rattle.std.proofs.shelf.Tests.{cases-eq}
 use Rattle.std.proofs.shelf.Ways.{tells}
 use Rattle.devices.specs.Meaning.{Meaning, Kept}
-use Rattle.layout.specs.Map.{packed, map-sector, map-sectors}
-use Rattle.volume.specs.NewVolume.{root-of, slots-of, new-identification, new-root, new-slots, taken-first}
-use Rattle.volume.specs.Formatting.{MapLaid, Formatted}
+use Rattle.layout.specs.Map.{packed, map-sector}
+use Rattle.volume.specs.NewVolume.{slots-of, taken-first}
+use Rattle.volume.specs.Formatting.{MapLaid}
 use Rattle.volume.proofs.Keeps.{kept-then, kept-of}
 
 -- a map sector is settled by the bits
@@ -49,27 +49,4 @@ map-more m m₁ m₂ T n s fits low laid kept here is =
         | inl e ↦ rw e (here ∙ is ∙ map-sector-same _ _ (taken-kept _ m m₁ T (laid .kept) fits) n)
         | inr ne ↦ kept .2 (1 + j) (omega (arith, laid .kept .0)) (λ e. ne (omega arith)) ∙ laid .map j (omega arith)
       ];
-    }
-
--- the map, then the root's descriptor, its slots, and the identification sector
-pub all-laid : (m m₁ m₂ m₃ m₄ : Meaning) (T : ℕ) (name : List ℕ) → slots-of T < m .count
-    → MapLaid m m₁ T (map-sectors T)
-    → Kept (λ k. k ≡ root-of T → ⊥) m₁ m₂ → m₂ .sector (root-of T) ≡ new-root T
-    → Kept (λ k. k ≡ slots-of T → ⊥) m₂ m₃ → m₃ .sector (slots-of T) ≡ new-slots T
-    → Kept (λ k. k ≡ 0 → ⊥) m₃ m₄ → m₄ .sector 0 ≡ new-identification T name
-    → Formatted m m₄ T name
-all-laid m m₁ m₂ m₃ m₄ T name fits laid k₂ root k₃ slots k₄ zeroth =
-    let n₁ = laid .kept .0 in
-    let n₂ = k₂ .0 in
-    let n₃ = k₃ .0 in
-    record {
-      kept =
-          kept-of _ _ m m₄
-          (λ k above. (((λ a b. omega arith, λ e. omega arith), λ e. omega arith), λ e. omega arith))
-          (kept-then _ _ m m₃ m₄ (kept-then _ _ m m₂ m₃ (kept-then _ _ m m₁ m₂ (laid .kept) k₂) k₃) k₄);
-      identification = zeroth;
-      map = λ j lt.
-          k₄ .2 (1 + j) (omega arith) (λ e. omega arith) ∙ k₃ .2 (1 + j) (omega arith) (λ e. omega arith) ∙ k₂ .2 (1 + j) (omega arith) (λ e. omega arith) ∙ laid .map j lt;
-      root = k₄ .2 (root-of T) (omega arith) (λ e. omega arith) ∙ k₃ .2 (root-of T) (omega arith) (λ e. omega arith) ∙ root;
-      slots = k₄ .2 (slots-of T) (omega arith) (λ e. omega arith) ∙ slots;
     }

@@ -1,2 +1,3 @@
 pub mod Keeps
 pub mod Layings
+pub mod NewReads

@@ -1,3 +1,4 @@
 pub mod Faults
 pub mod Formatting
+pub mod NewLayout
 pub mod NewVolume
