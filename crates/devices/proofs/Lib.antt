@@ -1,2 +1,5 @@
+pub mod Interleave
 pub mod Sectors
+pub mod Trays
 pub mod Windows
+pub mod Written

@@ -1,3 +1,5 @@
 pub mod Flat
+pub mod Geometry
 pub mod Meaning
+pub mod Tray
 pub mod Window

@@ -2,5 +2,8 @@
 
 pub mod device;
 pub mod flat;
+pub mod geometry;
+pub mod inspection;
 pub mod lent;
+pub mod tray;
 pub mod window;
