@@ -1,5 +1,6 @@
 // The volume layer: what a volume's record holds, and how a volume is made.
 
+pub mod count;
 pub mod fault;
 pub mod format;
 pub mod new_map;

@@ -1,4 +1,5 @@
 ghost use mathlib.Core.Path.{_≡_};
+ghost use Prim.Native.Nat.{_<_, _≤_};
 use super::open_paths::OpenPaths;
 
 // The record of a volume that was made or surveyed: every call on the volume takes it and keeps it up.
@@ -10,11 +11,18 @@ pub struct Volume {
     allocation: usize,
     paths: OpenPaths,
     opened: u32,
+    ghost least: { 16 ≤ total },
+    ghost most: { total ≤ 65536 },
+    ghost inside: { root < total },
+    ghost some: { 1 ≤ allocation },
+    ghost small: { allocation ≤ 255 },
 }
 
 impl Volume {
     // The record of a volume on which no path was ever opened.
     pub(crate) fn unopened(total: usize, root: usize, allocation: usize) -> Volume
+        requires whole { ⌜ (16 ≤ total) × (total ≤ 65536) × (root < total) ⌝ }
+        requires unit { ⌜ (1 ≤ allocation) × (allocation ≤ 255) ⌝ }
         ensures { λ r. ⌜ (r .total ≡ total) × (r .root ≡ root) × (r .allocation ≡ allocation) × (r .paths .count ≡ 0) × (r .opened ≡ 0) ⌝ }
     {
         Volume {
