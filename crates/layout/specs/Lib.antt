@@ -1,3 +1,4 @@
+pub mod Attributes
 pub mod Bytes
 pub mod Descriptor
 pub mod Directory

@@ -1,5 +1,6 @@
 // The layout of a volume in its sectors: numbers, records, names and the allocation map, read and written by their definitions.
 
+pub mod attribute;
 pub mod bitmap;
 pub mod descriptor;
 pub mod directory_entry;
