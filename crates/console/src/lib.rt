@@ -1,0 +1,3 @@
+// What the command line tool does, apart from reading words and printing lines.
+
+pub mod command;
