@@ -1,9 +1,9 @@
 -- The interleave is a permutation of the places: Euclid's lemma by subtraction.
-use mathlib.Core.Path.{_≡_, refl, sym, ap, subst, _∙_}
-use mathlib.Core.Logic.{_⊎_, inl, inr, ⊎-elim}
+use mathlib.Core.Path.{_≡_, sym, ap, _∙_}
+use mathlib.Core.Logic.{_⊎_, ⊎-elim}
 use Prim.Native.Nat.{ℕ, zero, suc, _+_, _-_, _*_, _/_, _%_, _<_, _≤_, _∣_}
 use native.Mathlib.Omega.{arith}
-use native.Mathlib.Nat.{one-dvd, dvd-add, dvd-sub, dvd-refl, dvd-zero, dvd-mul-left, dvd-mul-right, div-mul-cancel, mul-sub, mul-comm, mul-dvd-mul-right, dvd-of-mul-dvd-mul-right, le-of-dvd, mod-eq-zero-of-dvd, dvd-of-mod-eq-zero, div-add-mod, mod-lt, pos-of-dvd-of-pos}
+use native.Mathlib.Nat.{one-dvd, dvd-add, dvd-sub, dvd-refl, dvd-mul-left, dvd-mul-right, div-mul-cancel, mul-sub, mul-comm, mul-dvd-mul-right, dvd-of-mul-dvd-mul-right, le-of-dvd, mod-eq-zero-of-dvd, dvd-of-mod-eq-zero, div-add-mod, mod-lt, pos-of-dvd-of-pos}
 use lib.Arith.{digits-div, digits-mod, digits-lt}
 use Rattle.std.proofs.shelf.Tests.{cases-order}
 use Rattle.std.proofs.shelf.Bits.{div-below}

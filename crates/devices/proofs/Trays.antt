@@ -1,5 +1,5 @@
 -- What a tray's header tells, and what a write leaves of it.
-use mathlib.Core.Path.{_≡_, refl, sym, ap, _∙_}
+use mathlib.Core.Path.{_≡_, sym, ap, _∙_}
 use mathlib.Core.Logic.{⊎-elim}
 use mathlib.Core.List.{List}
 use Prim.Native.Nat.{ℕ, _+_, _-_, _*_, _<_, _≤_}
@@ -13,7 +13,7 @@ use Rattle.devices.specs.declared.tray.Tray.{Tray}
 use Rattle.devices.specs.declared.inspection.TrayQuestion.{TrayQuestion}
 use Rattle.devices.specs.declared.inspection.TrayQuestion.the-variants.{Header, Tracks, Sides, Sectors, Interleave, Spare, Length, State}
 use Rattle.devices.specs.Geometry.{place-of}
-use Rattle.devices.specs.Tray.{Sound, Denied, ShapeOf, SpareRight, LengthRight, sectors-of, total-of, row-of, step-of, tray-meaning, meaning-under, meaning-of}
+use Rattle.devices.specs.Tray.{Sound, Denied, ShapeOf, SpareRight, LengthRight, sectors-of, total-of, row-of, tray-meaning, meaning-under, meaning-of}
 use Rattle.devices.proofs.Interleave.{place-below}
 
 pub total-is : (xs : List ℕ) (g : Geometry) → ShapeOf xs g → sectors-of g ≡ total-of xs
@@ -32,10 +32,6 @@ some-track g p =
     (λ (e : g .tracks ≡ 0). let z : sectors-of g ≡ 0 = rw (e, zero-mul, zero-mul) in absurd (omega arith))
     (λ ne. omega arith)
     (cases-eq (g .tracks) 0)
-
--- no track is no sector
-pub no-track : (g : Geometry) → g .tracks ≡ 0 → sectors-of g ≡ 0
-no-track g e = rw (e, zero-mul, zero-mul)
 
 -- a tray whose header tells of a geometry is sound, where what no geometry says is right
 pub sound-under : (xs : List ℕ) (g : Geometry) → 0 < g .tracks → ShapeOf xs g → SpareRight xs → LengthRight xs → ((k : ℕ) → k < sectors-of g → getD xs (8 + k) 0 ≤ 1) → Sound xs

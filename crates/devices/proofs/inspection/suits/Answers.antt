@@ -7,7 +7,7 @@ use Rattle.devices.proofs.Interleave.{factor-le}
 use Rattle.devices.proofs.inspection.suits.Needs as need
 use Rattle.devices.proofs.inspection.suits.Needs.{else-interleave-factor-eq0·by·then-interleave-factor-eq0·else-sectors-factor-eq0 as one, else-interleave-factor-eq0·by·else-interleave-factor-eq0 as other}
 
--- no turn, or no turn that ended the loop
+-- no factor was tried: the interleave is 1
 pub returns-in-true : need.returns-in-true
 returns-in-true c =
     let k = c .args .interleave in

@@ -1,5 +1,5 @@
 use native.Mathlib.Omega.{arith}
-use mathlib.Core.Path.{_≡_, refl}
+use mathlib.Core.Path.{refl}
 use Prim.Native.Nat.{_*_, _<_}
 use Rattle.devices.proofs.Interleave.{place-injective, place-below}
 use Rattle.devices.proofs.geometry.Geometry.place.Needs as need
