@@ -1,6 +1,7 @@
 ghost use mathlib.Core.Path.{_≡_};
 ghost use Rattle.files.specs.CallFaults.{asCall, numberOf, placeOf, layerOf};
 use volume::fault::Layer;
+use volume::fault::Part;
 use volume::fault::VolumeFault;
 use volume::fault::VolumeFaultDebug;
 
