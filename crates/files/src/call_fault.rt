@@ -1,13 +1,15 @@
 ghost use mathlib.Core.Path.{_≡_};
-ghost use Rattle.files.specs.CallFaults.{asCall, numberOf, placeOf, layerOf};
+ghost use Rattle.files.specs.CallFaults.{ofTray, ofVolume, numberOf, placeOf, layerOf};
+use devices::inspection::TrayFault;
+use devices::inspection::TrayFaultDebug;
 use volume::fault::Layer;
-use volume::fault::Part;
 use volume::fault::VolumeFault;
 use volume::fault::VolumeFaultDebug;
 
-// A refusal of a call: so far the volume's alone, whole, with a device's inside it.
+// A refusal of a call, with the lower layer's refusal whole inside it.
 #[derive(Clone, Copy, Debug)]
 pub enum CallFault {
+    Tray(TrayFault),
     Volume(VolumeFault),
 }
 
@@ -16,6 +18,7 @@ impl CallFault {
         ensures { λ r. ⌜ r ≡ numberOf self ⌝ }
     {
         match self {
+            CallFault::Tray(_) => TrayFault::NUMBER,
             CallFault::Volume(fault) => fault.number(),
         }
     }
@@ -24,6 +27,7 @@ impl CallFault {
         ensures { λ r. ⌜ r ≡ placeOf self ⌝ }
     {
         match self {
+            CallFault::Tray(fault) => fault.place,
             CallFault::Volume(fault) => fault.place(),
         }
     }
@@ -33,13 +37,22 @@ impl CallFault {
         ensures { λ r. ⌜ r ≡ layerOf self ⌝ }
     {
         match self {
+            CallFault::Tray(_) => Layer::Devices,
             CallFault::Volume(fault) => fault.layer(),
         }
     }
 }
 
+pub impl From<TrayFault> for CallFault as CallFaultFromTray {
+    ghost converts = { λ x y. y ≡ ofTray x };
+
+    fn from(value: TrayFault) -> CallFault {
+        CallFault::Tray(value)
+    }
+}
+
 pub impl From<VolumeFault> for CallFault as CallFaultFromVolume {
-    ghost converts = { λ x y. y ≡ asCall x };
+    ghost converts = { λ x y. y ≡ ofVolume x };
 
     fn from(value: VolumeFault) -> CallFault {
         CallFault::Volume(value)

@@ -12,5 +12,5 @@ use Rattle.volume.specs.declared.fault.VolumeFault.the-variants.{Device, Refus
 -- how many of T sectors are clear, or the map sector that the device does not give
 abbrev pub Counted : Meaning → ℕ → Result ℕ VolumeFault → Type 0
 Counted m T (Ok n) = n ≡ clear-below (taken (m .sector)) T
-Counted m T (Err (Device p f)) = (p ≡ part.Map) × (1 ≤ f .lsn) × (f .lsn ≤ map-sectors T) × Refuses m (f .lsn) 256 f
+Counted m T (Err (Device r)) = (r .part ≡ part.Map) × (1 ≤ r .fault .lsn) × (r .fault .lsn ≤ map-sectors T) × Refuses m (r .fault .lsn) 256 (r .fault)
 Counted m T (Err (Refused r at)) = ⊥

@@ -14,7 +14,7 @@ use Rattle.volume.specs.declared.fault.VolumeRefusal.the-variants.{Arguments}
 
 -- a device's refusal becomes the volume's, whole
 abbrev pub asVolume : Reading → VolumeFault
-asVolume r = Device (r .part) (r .fault)
+asVolume r = Device r
 
 abbrev pub carried : {X : Type 0} → Result X DeviceFault → Part → Result X Reading
 carried (Ok x) p = Ok x
@@ -24,13 +24,13 @@ abbrev pub refusal-number : VolumeRefusal → ℕ
 refusal-number Arguments = 20
 
 abbrev pub numberOf : VolumeFault → ℕ
-numberOf (Device p f) = 14
+numberOf (Device r) = 14
 numberOf (Refused r at) = refusal-number r
 
 abbrev pub placeOf : VolumeFault → ℕ
-placeOf (Device p f) = f .lsn
+placeOf (Device r) = r .fault .lsn
 placeOf (Refused r at) = at
 
 abbrev pub layerOf : VolumeFault → Layer
-layerOf (Device p f) = Devices
+layerOf (Device r) = Devices
 layerOf (Refused r at) = Volume

@@ -70,11 +70,11 @@ BadSector m T p f = (f .cause ≡ Bad) × FirstBad m T (f .lsn) × (p ≡ part-o
 -- the answer to the question whether all of them are good
 abbrev pub GoodAnswer : Meaning → ℕ → Result Unit VolumeFault → Type 0
 GoodAnswer m T (Ok u) = GoodTo m (slots-of T)
-GoodAnswer m T (Err (Device p f)) = BadSector m T p f
+GoodAnswer m T (Err (Device r)) = BadSector m T (r .part) (r .fault)
 GoodAnswer m T (Err (Refused r at)) = ⊥
 
 abbrev pub FormatRefuses : Meaning → ℕ → List ℕ → ℕ → VolumeFault → Type 0
-FormatRefuses m T name a (Device p f) = Lawful m T name a × BadSector m T p f
+FormatRefuses m T name a (Device r) = Lawful m T name a × BadSector m T (r .part) (r .fault)
 FormatRefuses m T name a (Refused r at) = (r ≡ Arguments) × (at ≡ 0) × (Lawful m T name a → ⊥)
 
 abbrev pub FormatDone : Meaning → Meaning → ℕ → List ℕ → ℕ → Result Volume VolumeFault → Type 0

@@ -42,10 +42,7 @@ pub struct Reading {
 // A refusal of the volume layer: its own, with its place, or a device's, whole.
 #[derive(Clone, Copy, Debug)]
 pub enum VolumeFault {
-    Device {
-        part: Part,
-        fault: DeviceFault,
-    },
+    Device(Reading),
     Refused {
         refusal: VolumeRefusal,
         place: usize,
@@ -65,7 +62,7 @@ impl VolumeFault {
         ensures { λ r. ⌜ r ≡ numberOf self ⌝ }
     {
         match self {
-            VolumeFault::Device { part: _, fault: _ } => DeviceFault::NUMBER,
+            VolumeFault::Device(_) => DeviceFault::NUMBER,
             VolumeFault::Refused { refusal, place: _ } => refusal.number(),
         }
     }
@@ -75,7 +72,7 @@ impl VolumeFault {
         ensures { λ r. ⌜ r ≡ placeOf self ⌝ }
     {
         match self {
-            VolumeFault::Device { part: _, fault } => fault.lsn,
+            VolumeFault::Device(reading) => reading.fault.lsn,
             VolumeFault::Refused { refusal: _, place } => place,
         }
     }
@@ -85,7 +82,7 @@ impl VolumeFault {
         ensures { λ r. ⌜ r ≡ layerOf self ⌝ }
     {
         match self {
-            VolumeFault::Device { part: _, fault: _ } => Layer::Devices,
+            VolumeFault::Device(_) => Layer::Devices,
             VolumeFault::Refused {
                 refusal: _,
                 place: _,
@@ -98,10 +95,7 @@ pub impl From<Reading> for VolumeFault as VolumeFaultFromReading {
     ghost converts = { λ x y. y ≡ asVolume x };
 
     fn from(value: Reading) -> VolumeFault {
-        VolumeFault::Device {
-            part: value.part,
-            fault: value.fault,
-        }
+        VolumeFault::Device(value)
     }
 }
 
