@@ -1,3 +1,4 @@
 // What the command line tool does, apart from reading words and printing lines.
 
 pub mod command;
+pub mod image;
