@@ -21,7 +21,13 @@ fn is_format(verb: &str) -> bool
 }
 
 // The format command that five words make, if the first is its name and the two numbers are numbers.
-pub fn format_command<'a>(verb: &str, image: &'a str, sectors: &str, name: &'a str, allocation: &str) -> Option<FormatCommand<'a>>
+pub fn format_command<'a>(
+    verb: &str,
+    image: &'a str,
+    sectors: &str,
+    name: &'a str,
+    allocation: &str,
+) -> Option<FormatCommand<'a>>
     ensures { λ r. ⌜ BySome r (Asked (now (verb .entry)) (now (sectors .entry)) (now (allocation .entry)) → ⊥) (λ c. Asked (now (verb .entry)) (now (sectors .entry)) (now (allocation .entry)) × Taken (now (image .entry)) (now (sectors .entry)) (now (name .entry)) (now (allocation .entry)) c) ⌝ }
 {
     let true = is_format(verb) else {
@@ -33,5 +39,10 @@ pub fn format_command<'a>(verb: &str, image: &'a str, sectors: &str, name: &'a s
     let Ok(allocation) = allocation.parse::<usize>() else {
         return None;
     };
-    Some(FormatCommand { image, sectors, name, allocation })
+    Some(FormatCommand {
+        image,
+        sectors,
+        name,
+        allocation,
+    })
 }

@@ -42,7 +42,12 @@ fn blank_image(heap: Global, sectors: usize) -> Result<FlatImage, AllocError>
 
 // Makes a volume of `sectors` sectors in memory, on an image of just that many.
 // A volume of more sectors than a volume can have is refused with no memory asked for them.
-pub fn make_image(heap: Global, sectors: usize, name: &[u8], allocation: usize) -> Result<NewImage, ImageFault>
+pub fn make_image(
+    heap: Global,
+    sectors: usize,
+    name: &[u8],
+    allocation: usize,
+) -> Result<NewImage, ImageFault>
     ensures { λ r. ⌜ ImageDone sectors (now (name .entry)) allocation r ⌝ }
 {
     let Ok(mut image) = blank_image(heap, sectors.min(MOST)) else {

@@ -2,3 +2,5 @@
 
 pub mod command;
 pub mod image;
+pub mod letters;
+pub mod summary;

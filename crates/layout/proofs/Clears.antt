@@ -33,7 +33,7 @@ pub clear-sector : (sector : ℕ → List ℕ) (j n : ℕ) → n ≤ 2048 → cl
 clear-sector sector j n le =
     clear-then (taken sector) (j * 2048) n
     ∙ ap (λ c. clear-below (taken sector) (j * 2048) + c)
-      (clear-same _ _ n (λ i lt.
-        let row : (j * 2048 + i) / 2048 ≡ j = omega arith in
-        let place : (j * 2048 + i) % 2048 ≡ i = omega arith in
-        ap₂ (λ (r p : ℕ). bit-of (sector (1 + r)) p) row place))
+    (clear-same _ _ n (λ i lt.
+    let row : (j * 2048 + i) / 2048 ≡ j = omega arith in
+    let place : (j * 2048 + i) % 2048 ≡ i = omega arith in
+    ap₂ (λ (r p : ℕ). bit-of (sector (1 + r)) p) row place))

@@ -9,7 +9,11 @@ fn letter(attribute: u8, place: u32, set: u8) -> u8
     requires { ⌜ place < 8 ⌝ }
     ensures { λ r. ⌜ r ≡ cond {A = ℕ} (bit-at attribute place) set 45 ⌝ }
 {
-    if (attribute >> (7 - place)) % 2 == 1 { set } else { b'-' }
+    if (attribute >> (7 - place)) % 2 == 1 {
+        set
+    } else {
+        b'-'
+    }
 }
 
 // The eight letters of an attribute: d s e w r e w r, the first e w r for the public.

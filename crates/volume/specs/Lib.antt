@@ -3,3 +3,4 @@ pub mod Faults
 pub mod Formatting
 pub mod NewLayout
 pub mod NewVolume
+pub mod Sectors

@@ -6,4 +6,5 @@ pub mod format;
 pub mod new_map;
 pub mod new_sectors;
 pub mod open_paths;
+pub mod sectors;
 pub mod volume_record;

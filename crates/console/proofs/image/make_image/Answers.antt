@@ -25,9 +25,10 @@ returns-in-Ok-format c =
     let rest : tail (last .bytes .items) ≡ tail (image .bytes .items) = cc (done .beside) in
     let was : length (image .bytes .items) ≡ T * 256 = sym (image .bytes .ok .0) ∙ c .in-Ok .ensures tt .1 ∙ ap (λ n. n * 256) all in
     let count : length (last .bytes .items) / 256 ≡ T = ap (λ n. n / 256) (sym (last .bytes .ok .0)) ∙ formatted .kept .0 ∙ omega arith in
-    record
-      { lawful = subst (λ (m : Meaning). Lawful m T name a) e (done .done .0)
-      ; long = last .bytes .ok .0 ∙ same-length (image .bytes .items) (last .bytes .items) T was count rest
-      ; formatted = formatted
-      ; layout = subst (λ (m : Meaning). NewLayout m (image-meaning last .sector) T name) e (done .reads)
-      ; fresh = done .done .3 }
+    record {
+      lawful = subst (λ (m : Meaning). Lawful m T name a) e (done .done .0);
+      long = last .bytes .ok .0 ∙ same-length (image .bytes .items) (last .bytes .items) T was count rest;
+      formatted = formatted;
+      layout = subst (λ (m : Meaning). NewLayout m (image-meaning last .sector) T name) e (done .reads);
+      fresh = done .done .3;
+    }

@@ -15,9 +15,10 @@ loop-index-again g c =
     let inv = c .loop-index .inv in
     let read : c .read .last .buf ≡ m .sector (1 + j) = search needs in
     let before : min T (j * 2048) ≡ j * 2048 = omega arith in
-    let after : min T ((j + 1) * 2048) ≡ j * 2048 + n = omega arith in
-    ( search needs
-    , ap₂ _+_ (inv .1 ∙ ap (clear-below (taken (m .sector))) before) (c .clear-in-clear .ensures .is ∙ ap (λ s. clear-below (bit-of s) n) read)
-      ∙ sym (clear-sector (m .sector) j n (omega arith))
-      ∙ ap (clear-below (taken (m .sector))) (sym after)
-    , omega (arith, inv .2, c .clear-in-clear .ensures .few) )
+    let after : min T ((j + 1) * 2048) ≡ j * 2048 + n = omega arith in (
+      search needs,
+      ap₂ _+_ (inv .1 ∙ ap (clear-below (taken (m .sector))) before) (c .clear-in-clear .ensures .is ∙ ap (λ s. clear-below (bit-of s) n) read)
+          ∙ sym (clear-sector (m .sector) j n (omega arith))
+          ∙ ap (clear-below (taken (m .sector))) (sym after),
+      omega (arith, inv .2, c .clear-in-clear .ensures .few),
+    )
