@@ -1,3 +1,4 @@
 pub mod Commands
 pub mod Images
+pub mod Refusals
 pub mod Summaries

@@ -3,4 +3,5 @@
 pub mod command;
 pub mod image;
 pub mod letters;
+pub mod refusal;
 pub mod summary;
