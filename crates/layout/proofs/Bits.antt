@@ -1,5 +1,5 @@
 -- Bits packed into a byte, and read back.
-use mathlib.Core.Path.{_≡_, refl, sym, ap, _∙_}
+use mathlib.Core.Path.{_≡_, refl, sym, ap, ap₂, _∙_}
 use mathlib.Core.Bool.{Bool, true, false, cond}
 use mathlib.Core.Logic.{_⊎_, inl, inr}
 use mathlib.Core.List.{List, map}
@@ -56,3 +56,9 @@ pub map-taken : (f : ℕ → Bool) (sector : ℕ → List ℕ) (m : ℕ) → ((j
 map-taken f sector m laid k lt =
     let at : k / 2048 * 2048 + k % 2048 ≡ k = omega arith in
     ap (λ s. bit-of s (k % 2048)) (laid (k / 2048) (omega arith)) ∙ sector-bit f (k / 2048) (k % 2048) (omega arith) ∙ ap f at
+
+-- packed bits are settled by the bits
+pub packed-same : (f g : ℕ → Bool) → ((k : ℕ) → f k ≡ g k) → (k n : ℕ) → packed f k n ≡ packed g k n
+unfolding packed
+packed-same f g h k zero = refl
+packed-same f g h k (suc n) = ap₂ (λ (a : ℕ) (b : Bool). a * 2 + cond {A = ℕ} b 1 0) (packed-same f g h k n) (h (k + n))

@@ -1,26 +1,22 @@
 -- The sectors of a new volume, laid one after the other.
 use mathlib.Core.Path.{_≡_, refl, sym, ap, ap₂, _∙_}
-use mathlib.Core.Bool.{Bool, true, false, cond, _||_}
+use mathlib.Core.Bool.{Bool, true, false, _||_}
 use mathlib.Core.List.{List, [], _∷_, map}
 use mathlib.Core.Logic.{_⊎_, inl, inr}
-use Prim.Native.Nat.{ℕ, zero, suc, _+_, _*_, _<_, _≤_}
+use Prim.Native.Nat.{ℕ, _+_, _*_, _<_, _≤_}
 use native.Mathlib.Omega.{arith}
 use lib.Dec.{leb}
 use Rattle.std.specs.Iters.{counting}
 use Rattle.std.proofs.shelf.Tests.{cases-eq}
 use Rattle.std.proofs.shelf.Ways.{tells}
 use Rattle.devices.specs.Meaning.{Meaning, Kept}
-use Rattle.layout.specs.Map.{packed, map-sector}
+use Rattle.layout.proofs.Bits.{packed-same}
+use Rattle.layout.specs.Map.{map-sector}
 use Rattle.volume.specs.NewVolume.{slots-of, taken-first}
 use Rattle.volume.specs.Formatting.{MapLaid}
 use Rattle.volume.proofs.Keeps.{kept-then, kept-of}
 
 -- a map sector is settled by the bits
-packed-same : (f g : ℕ → Bool) → ((k : ℕ) → f k ≡ g k) → (k n : ℕ) → packed f k n ≡ packed g k n
-unfolding packed
-packed-same f g h k zero = refl
-packed-same f g h k (suc n) = ap₂ (λ (a : ℕ) (b : Bool). a * 2 + cond {A = ℕ} b 1 0) (packed-same f g h k n) (h (k + n))
-
 map-same : (f g : ℕ → ℕ) → ((k : ℕ) → f k ≡ g k) → (xs : List ℕ) → map f xs ≡ map g xs
 map-same f g h [] = refl
 map-same f g h (x ∷ xs) = ap₂ _∷_ (h x) (map-same f g h xs)
