@@ -1,4 +1,4 @@
--- The sectors of a new volume, laid one after the other.
+-- The sectors of a new volume, laid one after another.
 use mathlib.Core.Path.{_≡_, refl, sym, ap, ap₂, _∙_}
 use mathlib.Core.Bool.{Bool, true, false, _||_}
 use mathlib.Core.List.{List, [], _∷_, map}
