@@ -31,19 +31,30 @@ fn line_of(heap: Global, number: u8, place: usize, layer: &str) -> Result<String
 pub fn refusal_line(heap: Global, fault: CallFault) -> Result<String, AllocError>
     ensures { λ r. ⌜ made r (λ s. string-bytes s ≡ refusal-text fault) ⌝ }
 {
-    line_of(heap, fault.number(), fault.place(), layer_name(fault.layer()))
+    line_of(
+        heap,
+        fault.number(),
+        fault.place(),
+        layer_name(fault.layer()),
+    )
 }
 
 // What a refusal means, for people.
 pub fn plain_words(fault: CallFault) -> &'static str {
     match fault {
-        CallFault::Tray(_) => "the file is no tray: its header, its length or a state byte is wrong at that offset",
+        CallFault::Tray(_) =>
+            "the file is no tray: its header, its length or a state byte is wrong at that offset",
         CallFault::Volume(VolumeFault::Device(reading)) => match reading.fault.cause {
             Cause::Length => "a buffer of another size than a sector was used",
             Cause::Range => "the sector lies past the end of the device",
             Cause::Bad => "the sector is bad, and the volume cannot do without it",
         },
-        CallFault::Volume(VolumeFault::Refused { refusal: _, place: _ }) => {
+        CallFault::Volume(
+            VolumeFault::Refused {
+                refusal: _,
+                place: _,
+            },
+        ) => {
             "a volume has 16 to 65536 sectors, a name of 1 to 32 letters, digits, \"_\", \"$\" or \".\", and an allocation size of 1 to 255"
         }
     }

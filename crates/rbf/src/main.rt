@@ -44,7 +44,12 @@ fn replace_file(rt: &LibcRuntime, image: &str, bytes: &[u8]) -> Result<(), AnyEr
 
 // Makes a volume in memory, writes its image, and prints what it holds.
 fn format(rt: &LibcRuntime, command: FormatCommand<'_>) -> Result<Outcome, AnyError> {
-    let made = match make_image(rt.alloc(), command.sectors, command.name.as_bytes(), command.allocation) {
+    let made = match make_image(
+        rt.alloc(),
+        command.sectors,
+        command.name.as_bytes(),
+        command.allocation,
+    ) {
         Ok(made) => made,
         Err(ImageFault::Call(fault)) => return refuse(rt, fault),
         Err(ImageFault::Memory) => return Err("there is no memory for the image".into()),
@@ -63,7 +68,13 @@ fn format(rt: &LibcRuntime, command: FormatCommand<'_>) -> Result<Outcome, AnyEr
 fn run(rt: &LibcRuntime) -> Result<Outcome, AnyError> {
     let words: Vec<String> = env::args(rt)?.skip(1).collect(rt.alloc())?;
     if let [verb, image, sectors, name, allocation] = words.as_slice() {
-        let asked = format_command(verb.as_str(), image.as_str(), sectors.as_str(), name.as_str(), allocation.as_str());
+        let asked = format_command(
+            verb.as_str(),
+            image.as_str(),
+            sectors.as_str(),
+            name.as_str(),
+            allocation.as_str(),
+        );
         if let Some(command) = asked {
             return format(rt, command);
         }

@@ -17,7 +17,10 @@ fn letters_of(rt: &LibcRuntime, attribute: usize) -> Result<String, AnyError> {
 fn print_slot(rt: &LibcRuntime, lsn: usize, slot: &StoredSlot) -> Result<(), AnyError> {
     let name = stored_letters(rt.alloc(), &slot.name)?;
     let descriptor = slot.lsn;
-    println!(rt, "LSN {lsn}: root directory: \"{name}\" with its descriptor in LSN {descriptor}")?;
+    println!(
+        rt,
+        "LSN {lsn}: root directory: \"{name}\" with its descriptor in LSN {descriptor}"
+    )?;
     Ok(())
 }
 
@@ -28,13 +31,21 @@ fn print_root(rt: &LibcRuntime, lsn: usize, summary: &Summary) -> Result<(), Any
     let size = root.size;
     let start = root.segment.start;
     let len = root.segment.len;
-    println!(rt, "LSN {lsn}: root descriptor: attribute {letters}, link count {links}, size {size}, segment ({start}, {len})")?;
+    println!(
+        rt,
+        "LSN {lsn}: root descriptor: attribute {letters}, link count {links}, size {size}, segment ({start}, {len})"
+    )?;
     print_slot(rt, start, &summary.here)?;
     print_slot(rt, start, &summary.up)
 }
 
 // Prints what each sector of a new volume holds.
-pub fn print_summary(rt: &LibcRuntime, image: &str, len: usize, summary: &Summary) -> Result<(), AnyError> {
+pub fn print_summary(
+    rt: &LibcRuntime,
+    image: &str,
+    len: usize,
+    summary: &Summary,
+) -> Result<(), AnyError> {
     let found = summary.identification;
     let total = found.total;
     let map_bytes = found.map_bytes;
@@ -50,8 +61,14 @@ pub fn print_summary(rt: &LibcRuntime, image: &str, len: usize, summary: &Summar
         format!(rt.alloc(), "LSN 1 to {last}")?
     };
     println!(rt, "{image}: {len} bytes, {total} sectors")?;
-    println!(rt, "LSN 0: identification: {total} sectors, {map_bytes} map bytes, cluster size {cluster}, root descriptor in LSN {root}, attribute {letters}, name \"{name}\"")?;
-    println!(rt, "{range}: allocation map: {clear} of {total} sectors clear")?;
+    println!(
+        rt,
+        "LSN 0: identification: {total} sectors, {map_bytes} map bytes, cluster size {cluster}, root descriptor in LSN {root}, attribute {letters}, name \"{name}\""
+    )?;
+    println!(
+        rt,
+        "{range}: allocation map: {clear} of {total} sectors clear"
+    )?;
     print_root(rt, root, summary)
 }
 
@@ -62,6 +79,9 @@ pub fn print_record(rt: &LibcRuntime, volume: &Volume) -> Result<(), AnyError> {
     let allocation = volume.allocation();
     let open = volume.open();
     let opened = volume.opened();
-    println!(rt, "record: {total} sectors, root descriptor {root}, allocation size {allocation}, {open} paths open, {opened} ever opened")?;
+    println!(
+        rt,
+        "record: {total} sectors, root descriptor {root}, allocation size {allocation}, {open} paths open, {opened} ever opened"
+    )?;
     Ok(())
 }

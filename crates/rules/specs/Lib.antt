@@ -1,0 +1,3 @@
+pub mod Letters
+pub mod Nodes
+pub mod Rules
