@@ -1,3 +1,4 @@
 pub mod Keeps
 pub mod Layings
 pub mod NewReads
+pub mod NewSound

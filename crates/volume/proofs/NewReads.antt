@@ -13,7 +13,7 @@ use Rattle.std.proofs.shelf.Lists.{append-nil, length-replicate, length-take-le
 use Rattle.std.proofs.shelf.Ways.{tells}
 use Rattle.devices.specs.Meaning.{Meaning}
 use Rattle.layout.specs.Bytes.{Field, number, bytes, over, laid-over}
-use Rattle.layout.specs.Descriptor.{size, segments, upto, extent, content, segment-bytes}
+use Rattle.layout.specs.Descriptor.{size, segment, segments, upto, extent, content, segment-bytes}
 use Rattle.layout.specs.Directory.{Slot, entry, slot, slots, slot-name, slot-bytes}
 use Rattle.layout.specs.Map.{map-bytes-of, map-sectors}
 use Rattle.layout.specs.Names.{VolumeName, name-byte, marked, name-of}
@@ -25,7 +25,7 @@ use Rattle.layout.proofs.Lays.{Inside, Apart, Holds, length-laid, number-apart,
 use Rattle.layout.proofs.Marks.{length-marked, name-of-marked}
 use Rattle.layout.proofs.Overs.{length-over, over-over, part-over}
 use Rattle.layout.proofs.Rows.{record-here, record-take, record-below}
-use Rattle.layout.proofs.Segments.{length-segment, one-segment}
+use Rattle.layout.proofs.Segments.{length-segment, segment-numbers, one-segment}
 use Rattle.layout.proofs.Slots.{length-slot, slot-entry}
 use Rattle.volume.specs.Formatting.{Formatted}
 use Rattle.volume.specs.NewLayout.{IdentificationReads, RootReads, NewLayout}
@@ -223,15 +223,41 @@ module _ (T : ℕ) (few : T ≤ 65536) where
   two-slots : (xs : List ℕ) → length xs ≡ 64 → slots xs ≡ slot (record-at 32 0 xs) ∷ slot (record-at 32 1 xs) ∷ []
   two-slots xs long = ap (λ n. map (λ k. slot (record-at 32 k xs)) (counting 0 (n / 32))) long
 
+  pub here-read : slot (record-at 32 0 (take 64 (new-slots T))) ≡ entry (codes ".") (root-of T)
+  unfolding both dots dot-dots
+  here-read = ap slot (record-take 0 32 64 both (omega arith) ∙ slot-0) ∙ dots-are
+
+  pub up-read : slot (record-at 32 1 (take 64 (new-slots T))) ≡ entry (codes "..") (root-of T)
+  unfolding both dots dot-dots
+  up-read = ap slot (record-take 1 32 64 both (omega arith) ∙ slot-1) ∙ dot-dots-are
+
+  pub slots-long : length (take 64 (new-slots T)) ≡ 64
+  unfolding both dots dot-dots
+  slots-long = length-take-le 64 both (omega (arith, both-long))
+
   pub slots-read : slots (take 64 (new-slots T)) ≡ entry (codes ".") (root-of T) ∷ entry (codes "..") (root-of T) ∷ []
   unfolding both dots dot-dots
-  slots-read =
-      two-slots (take 64 both) (length-take-le 64 both (omega (arith, both-long)))
-      ∙ ap₂ (λ a b. slot a ∷ slot b ∷ []) (record-take 0 32 64 both (omega arith) ∙ slot-0) (record-take 1 32 64 both (omega arith) ∙ slot-1)
-      ∙ ap₂ (λ a b. a ∷ b ∷ []) dots-are dot-dots-are
+  slots-read = two-slots (take 64 both) slots-long ∙ ap₂ (λ a b. a ∷ b ∷ []) here-read up-read
+
+  -- the entries behind the first are zero
+  behind-first : (at w : ℕ) → 21 ≤ at → Apart at w root-numbers
+  behind-first at w le =
+      (inr (omega arith), (inr (omega arith), (inr (omega (arith, length-bytes 4 64)), (inr (omega (arith, length-bytes 3 (slots-of T))), (inr (omega (arith, length-bytes 2 1)), tt)))))
+
+  pub first-len : segment (new-root T) 0 .len ≡ 1
+  first-len =
+      ap (λ (g : Segment). g .len) (segment-numbers (new-root T) 0)
+      ∙ ap (number 19 2) root-same
+      ∙ number-held 19 2 1 (omega arith) none root-numbers 256 none-long root-within (inr (inr (inr (inr (inl (refl, refl, tt))))))
+
+  pub rest-zero : (k : ℕ) → 1 ≤ k → segment (new-root T) k ≡ record { start = 0; len = 0 }
+  rest-zero k le =
+      let make : ℕ → ℕ → Segment = λ x y. record { start = x; len = y } in
+      let zero-at : (at w : ℕ) → 21 ≤ at → number at w (new-root T) ≡ 0 = λ at w ge. ap (number at w) root-same ∙ number-apart at w none root-numbers 256 none-long root-within (behind-first at w ge) ∙ number-zeros at w 256 in
+      segment-numbers (new-root T) k ∙ ap₂ make (zero-at (16 + k * 5) 3 (omega arith)) (zero-at (16 + k * 5 + 3) 2 (omega arith))
 
 -- the bytes of a file of one sector
-one-sector : (sector : ℕ → List ℕ) (s : List ℕ) (T : ℕ) → RootReads s T → content sector s ≡ take 64 (sector (slots-of T))
+pub one-sector : (sector : ℕ → List ℕ) (s : List ℕ) (T : ℕ) → RootReads s T → content sector s ≡ take 64 (sector (slots-of T))
 unfolding upto
 one-sector sector s T r =
     ap₂ (λ (n : ℕ) (ss : List Segment). take n (joined sector (extent ss))) (r .size-is) (r .one-segment) ∙ ap (take 64) (append-nil (sector (slots-of T)))

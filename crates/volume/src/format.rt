@@ -5,6 +5,7 @@ ghost use Rattle.devices.specs.Meaning.{Kept};
 ghost use Rattle.layout.specs.Map.{map-sectors};
 ghost use Rattle.layout.specs.Names.{VolumeName};
 ghost use Rattle.std.specs.Vec.{made};
+ghost use Rattle.rules.specs.Rules.{Sound};
 ghost use Rattle.volume.specs.NewLayout.{NewLayout};
 ghost use Rattle.volume.specs.NewVolume.{slots-of};
 ghost use Rattle.volume.specs.Formatting.{part-of, GoodTo, GoodAnswer, MapLaid, Formatted, FormatDone};
@@ -116,6 +117,7 @@ pub fn format<D: Device>(
 ) -> Result<Volume, VolumeFault>
     ensures done { λ r. ⌜ FormatDone (D·Device .meaning (now (device .entry))) (D·Device .meaning (now (device .exit))) total (now (name .entry)) allocation r ⌝ }
     ensures reads { λ r. ⌜ made r (λ _. NewLayout (D·Device .meaning (now (device .entry))) (D·Device .meaning (now (device .exit)) .sector) total (now (name .entry))) ⌝ }
+    ensures sound { λ r. ⌜ made r (λ _. Sound (D·Device .meaning (now (device .exit)))) ⌝ }
     ensures beside { λ _. ⌜ D·Device .aside (now (device .exit)) ≡ D·Device .aside (now (device .entry)) ⌝ }
 {
     let 16..=65536 = total else {
