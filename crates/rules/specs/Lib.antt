@@ -1,3 +1,4 @@
 pub mod Letters
 pub mod Nodes
 pub mod Rules
+pub mod Walking

@@ -74,11 +74,15 @@ pub record SlotRight (xs : List ℕ) : Type 0 where
   pub name-right : StoredName (take 28 xs)
   pub spare : getD xs 28 0 ≡ 0
 
-pub record RuleE (d : Meaning) (l : ℕ) : Type 0 where
+-- the slots of the directory l, whose parent is p
+pub record SlotsRight (d : Meaning) (l p : ℕ) : Type 0 where
   pub here : slot (slot-bytes-at d l 0) ≡ entry (codes ".") l
-  pub up : (p : ℕ) → Parent (d .sector) (root-at d) p l → slot (slot-bytes-at d l 1) ≡ entry (codes "..") p
+  pub up : slot (slot-bytes-at d l 1) ≡ entry (codes "..") p
   pub right : (k : ℕ) → 2 ≤ k → k < slot-count d l → (getD (slot-bytes-at d l k) 0 0 ≡ 0 → ⊥) → SlotRight (slot-bytes-at d l k)
   pub distinct : (j k : ℕ) → 2 ≤ j → j < k → k < slot-count d l → (getD (slot-bytes-at d l j) 0 0 ≡ 0 → ⊥) → (getD (slot-bytes-at d l k) 0 0 ≡ 0 → ⊥) → name-of (take 28 (slot-bytes-at d l j)) ≡ name-of (take 28 (slot-bytes-at d l k)) → ⊥
+
+abbrev pub RuleE : Meaning → ℕ → Type 0
+RuleE d l = (p : ℕ) → Parent (d .sector) (root-at d) p l → SlotsRight d l p
 
 -- F: a file has one link
 abbrev pub RuleF : Meaning → ℕ → Type 0

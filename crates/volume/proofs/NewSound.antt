@@ -108,26 +108,29 @@ module _ (m m′ : Meaning) (T : ℕ) (name : List ℕ) (least : 16 ≤ T) (most
 
   root-b : RuleB m′ (root-of T)
   root-b =
-      record
-        { segments-inside = λ k pos.
+      record {
+        segments-inside = λ k pos.
             let e : k ≡ slots-of T = times-one k (slots-of T) (rw one-extent at pos) in
-            (omega (arith, T-is), omega (arith, T-is))
-        ; children-inside = λ k pos. absurd (omega (arith, pos, ap (times k) no-children)) }
+            (omega (arith, T-is), omega (arith, T-is));
+        children-inside = λ k pos. absurd (omega (arith, pos, ap (times k) no-children));
+      }
 
   root-c : RuleC m′ (root-of T)
   root-c j k le lt zero-len =
       let was : segment (new-root T) j .len ≡ 0 = ap (λ s. segment s j .len) (sym (f .root)) ∙ zero-len in
       elim (cases-eq j 0) [
-        inl e ↦ absurd (omega (arith, first-len T most, ap (λ i. segment (new-root T) i .len) e, was))
-      | inr ne ↦ ap (λ s. segment s k) (f .root) ∙ rest-zero T most k (omega arith) ]
+        | inl e ↦ absurd (omega (arith, first-len T most, ap (λ i. segment (new-root T) i .len) e, was))
+        | inr ne ↦ ap (λ s. segment s k) (f .root) ∙ rest-zero T most k (omega arith)
+      ]
 
   root-d : RuleD m′ (root-of T)
   root-d =
       let one : length (extent (segments (m′ .sector (root-of T)))) ≡ 1 = ap length one-extent in
-      record
-        { held = omega (arith, one, reads .size-is)
-        ; whole = λ e. ap (λ n. n % 32) (reads .size-is)
-        ; two = λ e. omega (arith, reads .size-is) }
+      record {
+        held = omega (arith, one, reads .size-is);
+        whole = λ e. ap (λ n. n % 32) (reads .size-is);
+        two = λ e. omega (arith, reads .size-is);
+      }
 
   all-bytes : content (m′ .sector) (m′ .sector (root-of T)) ≡ take 64 (new-slots T)
   all-bytes = bytes-are ∙ ap (take 64) (f .slots)
@@ -136,12 +139,13 @@ module _ (m m′ : Meaning) (T : ℕ) (name : List ℕ) (least : 16 ≤ T) (most
   two-only = ap (λ n. n / 32) (ap length all-bytes ∙ slots-long T most)
 
   root-e : RuleE m′ (root-of T)
-  root-e =
-      record
-        { here = ap (λ xs. slot (record-at 32 0 xs)) all-bytes ∙ here-read T most
-        ; up = λ p of. ap (λ xs. slot (record-at 32 1 xs)) all-bytes ∙ up-read T most ∙ ap (entry (codes "..")) (sym (parent-root p (root-of T) of))
-        ; right = λ k two lt. absurd (omega (arith, two-only, two, lt))
-        ; distinct = λ j k two less lt. absurd (omega (arith, two-only, two, less, lt)) }
+  root-e p of =
+      record {
+        here = ap (λ xs. slot (record-at 32 0 xs)) all-bytes ∙ here-read T most;
+        up = ap (λ xs. slot (record-at 32 1 xs)) all-bytes ∙ up-read T most ∙ ap (entry (codes "..")) (sym (parent-root p (root-of T) of));
+        right = λ k two lt. absurd (omega (arith, two-only, two, lt));
+        distinct = λ j k two less lt. absurd (omega (arith, two-only, two, less, lt));
+      }
 
   is-set : (k : ℕ) → k ≤ slots-of T → taken (m′ .sector) k ≡ true
   is-set k le = layout .map k (omega arith) ∙ front-true (leb k (slots-of T)) (leb T k || m .bad k) (leb-true k (slots-of T) le)
@@ -151,8 +155,9 @@ module _ (m m′ : Meaning) (T : ℕ) (name : List ℕ) (least : 16 ≤ T) (most
       let lt : k < T = omega (arith, T-is, w .0) in
       f .kept .1 k (omega arith)
       ∙ elim (w .1) [
-          inl o ↦ good k (owned-low k o)
-        | inr clear ↦ last-false (leb k (slots-of T)) (leb T k) (m .bad k) (sym (layout .map k (omega arith)) ∙ clear) ]
+        | inl o ↦ good k (owned-low k o)
+        | inr clear ↦ last-false (leb k (slots-of T)) (leb T k) (m .bad k) (sym (layout .map k (omega arith)) ∙ clear)
+      ]
 
   -- a fact of the root is one of everything that is reached
   of-found : (P : ℕ → Type 0) → P (root-of T) → (l : ℕ) → Found m′ l → P l
@@ -160,22 +165,24 @@ module _ (m m′ : Meaning) (T : ℕ) (name : List ℕ) (least : 16 ≤ T) (most
 
   pub new-sound : Sound m′
   new-sound =
-      record
-        { rule-a =
-            record
-              { least = omega (arith, T-is)
-              ; most = omega (arith, T-is)
-              ; fits = omega (arith, T-is, f .kept .0)
-              ; map-right = layout .identification .map-bytes-are ∙ ap map-bytes-of (sym T-is)
-              ; clusters = layout .identification .one-sector-clusters
-              ; width = inl (layout .identification .usual-sectors) }
-        ; root-inside = (omega (arith, T-is, root-is), omega (arith, T-is, root-is))
-        ; rule-b = of-found (RuleB m′) root-b
-        ; rule-c = of-found (RuleC m′) root-c
-        ; rule-d = of-found (RuleD m′) root-d
-        ; rule-e = of-found (λ l. is-directory (m′ .sector l) ≡ true → RuleE m′ l) (λ e. root-e)
-        ; root-directory = ap (λ l. is-directory (m′ .sector l)) root-is ∙ directory
-        ; rule-f = of-found (RuleF m′) (λ e. absurd (let d = directory in let z : _≡_ {A = ℕ} 0 1 = cc in omega arith))
-        ; rule-g = not-twice
-        ; rule-h = λ k o. is-set k (owned-low k o)
-        ; good = all-good }
+      record {
+        rule-a =
+            record {
+              least = omega (arith, T-is);
+              most = omega (arith, T-is);
+              fits = omega (arith, T-is, f .kept .0);
+              map-right = layout .identification .map-bytes-are ∙ ap map-bytes-of (sym T-is);
+              clusters = layout .identification .one-sector-clusters;
+              width = inl (layout .identification .usual-sectors);
+            };
+        root-inside = (omega (arith, T-is, root-is), omega (arith, T-is, root-is));
+        rule-b = of-found (RuleB m′) root-b;
+        rule-c = of-found (RuleC m′) root-c;
+        rule-d = of-found (RuleD m′) root-d;
+        rule-e = of-found (λ l. is-directory (m′ .sector l) ≡ true → RuleE m′ l) (λ e. root-e);
+        root-directory = ap (λ l. is-directory (m′ .sector l)) root-is ∙ directory;
+        rule-f = of-found (RuleF m′) (λ e. absurd (let d = directory in let z : _≡_ {A = ℕ} 0 1 = cc in omega arith));
+        rule-g = not-twice;
+        rule-h = λ k o. is-set k (owned-low k o);
+        good = all-good;
+      }
