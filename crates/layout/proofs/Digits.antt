@@ -48,3 +48,11 @@ module _ (p : ℕ) (bs xs : List ℕ) (fits : p + length bs ≤ length xs) where
 
   pub number-above : (at w : ℕ) → p + length bs ≤ at → number at w (over p bs xs) ≡ number at w xs
   number-above at w le = number-same at at w _ _ (λ k lt. over-above p bs xs fits (at + k) (omega arith))
+
+-- a number of bytes is below the power that they reach
+pub number-lt : (at w : ℕ) (xs : List ℕ) → ((k : ℕ) → getD xs k 0 < 256) → number at w xs < 256 ^ w
+unfolding number
+number-lt at zero xs h = omega arith
+number-lt at (suc w) xs h =
+    let more : 256 ^ suc w ≡ 256 ^ w * 256 = pow-suc 256 w in
+    omega (arith, number-lt at w xs h, h (at + w))

@@ -18,7 +18,9 @@ pub const SEGMENTS: usize = 48;
 pub fn segment_at(descriptor: &[u8], k: usize) -> Segment
     requires wide { ⌜ length (now descriptor) ≡ 256 ⌝ }
     requires few { ⌜ k < 48 ⌝ }
-    ensures { λ r. ⌜ r ≡ segment-in (now (descriptor .entry)) k ⌝ }
+    ensures is { λ r. ⌜ r ≡ segment-in (now (descriptor .entry)) k ⌝ }
+    ensures low { λ r. ⌜ r .start < 2 ^ 24 ⌝ }
+    ensures short { λ r. ⌜ r .len < 2 ^ 16 ⌝ }
 {
     nth::<SegmentEntry>(&descriptor[SEGMENTS_AT..256], k)
 }

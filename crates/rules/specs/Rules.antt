@@ -43,19 +43,29 @@ pub record RuleA (d : Meaning) : Type 0 where
 abbrev pub Inside : Meaning → ℕ → Type 0
 Inside d k = (map-of d < k) × (k < sectors-of d)
 
+-- every sector of the segments lies behind low and below high
+abbrev pub SegmentsWithin : List ℕ → ℕ → ℕ → Type 0
+SegmentsWithin s low high = (k : ℕ) → 0 < times k (extent (segments s)) → (low < k) × (k < high)
+
 pub record RuleB (d : Meaning) (l : ℕ) : Type 0 where
-  pub segments-inside : (k : ℕ) → 0 < times k (extent (segments (d .sector l))) → Inside d k
+  pub segments-inside : SegmentsWithin (d .sector l) (map-of d) (sectors-of d)
   pub children-inside : (k : ℕ) → 0 < times k (children (d .sector) l) → Inside d k
 
 -- C: an unused entry is zero, and so is each behind it
+abbrev pub Tidy : List ℕ → Type 0
+Tidy s = (j k : ℕ) → j ≤ k → k < 48 → segment s j .len ≡ 0 → segment s k ≡ record { start = 0; len = 0 }
+
 abbrev pub RuleC : Meaning → ℕ → Type 0
-RuleC d l = (j k : ℕ) → j ≤ k → k < 48 → segment (d .sector l) j .len ≡ 0 → segment (d .sector l) k ≡ record { start = 0; len = 0 }
+RuleC d l = Tidy (d .sector l)
 
 -- D: the segments hold the size; a directory has whole slots, two at least
-pub record RuleD (d : Meaning) (l : ℕ) : Type 0 where
-  pub held : size (d .sector l) ≤ 256 * length (extent (segments (d .sector l)))
-  pub whole : is-directory (d .sector l) ≡ true → size (d .sector l) % 32 ≡ 0
-  pub two : is-directory (d .sector l) ≡ true → 64 ≤ size (d .sector l)
+pub record SizeRight (s : List ℕ) : Type 0 where
+  pub held : size s ≤ 256 * length (extent (segments s))
+  pub whole : is-directory s ≡ true → size s % 32 ≡ 0
+  pub two : is-directory s ≡ true → 64 ≤ size s
+
+abbrev pub RuleD : Meaning → ℕ → Type 0
+RuleD d l = SizeRight (d .sector l)
 
 -- E: the slots of a directory, by their 32 bytes each
 abbrev pub slot-bytes-at : Meaning → ℕ → ℕ → List ℕ
@@ -85,8 +95,11 @@ abbrev pub RuleE : Meaning → ℕ → Type 0
 RuleE d l = (p : ℕ) → Parent (d .sector) (root-at d) p l → SlotsRight d l p
 
 -- F: a file has one link
+abbrev pub Linked : List ℕ → Type 0
+Linked s = is-directory s ≡ false → link-count s ≡ 1
+
 abbrev pub RuleF : Meaning → ℕ → Type 0
-RuleF d l = is-directory (d .sector l) ≡ false → link-count (d .sector l) ≡ 1
+RuleF d l = Linked (d .sector l)
 
 -- G: a descriptor that is reached by more than one slot (the root is reached once with no slot), and a sector that is held twice
 pub data Again (d : Meaning) (l : ℕ) : Type 0 where
