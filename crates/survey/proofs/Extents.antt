@@ -67,7 +67,7 @@ module _ (s : List ℕ) (k : ℕ) (g : Segment) (e : g ≡ segment s k) (h : k <
   step : rest s k ≡ segment s k ∷ rest s (k + 1)
   step = rest-more s k h (λ z. ne (ap (λ (x : Segment). x .len) e ∙ z))
 
-  split : extent (rest s k) ≡ upto (g .start) (g .len) ++ extent (rest s (k + 1))
+  pub split : extent (rest s k) ≡ upto (g .start) (g .len) ++ extent (rest s (k + 1))
   split = ap extent step ∙ ap (λ (x : Segment). upto (x .start) (x .len) ++ extent (rest s (k + 1))) (sym e)
 
   pub more-held : length (extent (rest s k)) ≡ g .len + length (extent (rest s (k + 1)))

@@ -1,2 +1,3 @@
 pub mod Extents
+pub mod Markings
 pub mod Within

@@ -12,7 +12,7 @@ use Rattle.layout.specs.declared.segment.Segment.{Segment}
 use Rattle.rules.specs.Nodes.{times}
 use Rattle.rules.proofs.Times.{hit-is}
 use Rattle.survey.specs.Entries.{Used}
-use Rattle.survey.proofs.Extents.{rest, rest-more, rest-end}
+use Rattle.survey.proofs.Extents.{rest, rest-more, rest-end, split}
 
 pub times-++ : (k : ℕ) (xs ys : List ℕ) → times k (xs ++ ys) ≡ times k xs + times k ys
 times-++ k [] ys = omega arith
@@ -70,3 +70,10 @@ module _ (s : List ℕ) (n : ℕ) (u : Used s n) where
 
   pub entry-has : (j k : ℕ) → j < n → segment s j .start ≤ k → k < segment s j .start + segment s j .len → 0 < times k (extent (segments s))
   entry-has j k lt low high = from-has n 0 j k (omega arith) (omega arith) lt low high
+
+pub upto-none : (k s n : ℕ) → n ≡ 0 → times k (upto s n) ≡ 0
+upto-none k s n e = elim (cases-lt k s) [ inl lt ↦ upto-out k s n (inl lt) | inr ge ↦ upto-out k s n (inr (omega arith)) ]
+
+-- the sectors from an entry on are its own and those behind it
+pub split-times : (s : List ℕ) (k : ℕ) (g : Segment) → g ≡ segment s k → k < 48 → (g .len ≡ 0 → ⊥) → (i : ℕ) → times i (extent (rest s k)) ≡ times i (upto (g .start) (g .len)) + times i (extent (rest s (k + 1)))
+split-times s k g e low ne i = ap (times i) (split s k g e low ne) ∙ times-++ i (upto (g .start) (g .len)) (extent (rest s (k + 1)))
