@@ -11,7 +11,7 @@ use Rattle.layout.specs.Descriptor.{link-count, size, segment, segments, extent
 use Rattle.layout.specs.Directory.{Slot, empty, entry, slots, slot}
 use Rattle.layout.specs.Identification.{total, map-bytes, cluster-size, root, sector-size}
 use Rattle.layout.specs.Map.{map-bytes-of, map-sectors, taken}
-use Rattle.layout.specs.Names.{NameBytes, name-of}
+use Rattle.layout.specs.Names.{name-byte, name-of}
 use Rattle.layout.specs.Records.{record-at}
 use Rattle.rules.specs.Nodes.{times, is-directory, children, Reached, holds, Held, Parent}
 use Rattle.rules.specs.declared.rule.Rule.{Rule}
@@ -74,11 +74,14 @@ slot-bytes-at d l k = record-at 32 k (content (d .sector) (d .sector l))
 abbrev pub slot-count : Meaning → ℕ → ℕ
 slot-count d l = length (content (d .sector) (d .sector l)) / 32
 
--- a stored name: marked within its 28 bytes, of 1 to 28 name bytes, and not of periods alone
+-- a stored name: its last byte, the first with bit 7 set, lies within 28; each byte up to it, the mark aside, is a name byte, and one is no period
 pub record StoredName (stored : List ℕ) : Type 0 where
-  pub mark : (k : ℕ) × (k < 28) × (128 ≤ getD stored k 0)
-  pub letters : NameBytes (name-of stored)
-  pub proper : (k : ℕ) × (k < length (name-of stored)) × (getD (name-of stored) k 0 ≡ 46 → ⊥)
+  pub last : ℕ
+  pub short : last < 28
+  pub mark : 128 ≤ getD stored last 0
+  pub first : (j : ℕ) → j < last → getD stored j 0 < 128
+  pub letters : (j : ℕ) → j ≤ last → name-byte (getD stored j 0 % 128) ≡ true
+  pub proper : (j : ℕ) × (j ≤ last) × (getD stored j 0 % 128 ≡ 46 → ⊥)
 
 pub record SlotRight (xs : List ℕ) : Type 0 where
   pub name-right : StoredName (take 28 xs)

@@ -1,3 +1,4 @@
 pub mod Extents
 pub mod Markings
+pub mod Spelt
 pub mod Within
