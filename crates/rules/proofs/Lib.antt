@@ -1,2 +1,5 @@
 pub mod Findings
+pub mod Joins
+pub mod Room
 pub mod Times
+pub mod Walks

@@ -1,7 +1,7 @@
--- How often a number stands in a short list.
+-- How often a number stands in a list.
 use mathlib.Core.Path.{_≡_, refl}
 use mathlib.Core.Bool.{Bool, true, false, cond}
-use mathlib.Core.List.{List, [], _∷_}
+use mathlib.Core.List.{List, [], _∷_, _++_}
 use mathlib.Core.Logic.{_⊎_, inl, inr}
 use Prim.Native.Nat.{ℕ, _+_, _<_, _≤_}
 use native.Mathlib.Omega.{arith}
@@ -16,6 +16,13 @@ hit-is k x = elim (cases-eq k x) [
   | inl e ↦ inl (e, rw (eq-eqb k x e) refl)
   | inr ne ↦ inr (ne, rw (ne-eqb k x ne) refl)
 ]
+
+pub hit-self : (k : ℕ) → cond {A = ℕ} (eqb k k) 1 0 ≡ 1
+hit-self k = rw (eq-eqb k k refl) refl
+
+pub times-++ : (k : ℕ) (xs ys : List ℕ) → times k (xs ++ ys) ≡ times k xs + times k ys
+times-++ k [] ys = omega arith
+times-++ k (x ∷ xs) ys = omega (arith, times-++ k xs ys)
 
 pub times-one : (k x : ℕ) → 0 < times k (x ∷ []) → k ≡ x
 times-one k x pos = elim (hit-is k x) [ inl h ↦ h .0 | inr h ↦ absurd (omega (arith, h .1)) ]

@@ -60,8 +60,9 @@ rest-all s k e = rw e
 -- behind the last used entry there is none
 pub rest-end : (s : List ℕ) (n : ℕ) → Used s n → rest s n ≡ []
 rest-end s n u = elim (cases-lt n 48) [
-    inl lt ↦ rest-none s n lt (u .first lt)
-  | inr le ↦ rest-all s n (omega (arith, u .most)) ]
+  | inl lt ↦ rest-none s n lt (u .first lt)
+  | inr le ↦ rest-all s n (omega (arith, u .most))
+]
 
 module _ (s : List ℕ) (k : ℕ) (g : Segment) (e : g ≡ segment s k) (h : k < 48) (ne : g .len ≡ 0 → ⊥) where
   step : rest s k ≡ segment s k ∷ rest s (k + 1)

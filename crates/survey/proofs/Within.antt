@@ -23,21 +23,24 @@ pub upto-out : (k s n : ℕ) → (k < s) ⊎ (s + n ≤ k) → times k (upto s n
 unfolding upto
 upto-out k s zero w = refl
 upto-out k s (suc n) w = elim (hit-is k s) [
-    inl h ↦ absurd (elim w [ inl lt ↦ omega (arith, h .0) | inr le ↦ omega (arith, h .0) ])
-  | inr h ↦ omega (arith, h .1, upto-out k (s + 1) n (elim w [ inl lt ↦ inl (omega arith) | inr le ↦ inr (omega arith) ])) ]
+  | inl h ↦ absurd (elim w [ inl lt ↦ omega (arith, h .0) | inr le ↦ omega (arith, h .0) ])
+  | inr h ↦ omega (arith, h .1, upto-out k (s + 1) n (elim w [ inl lt ↦ inl (omega arith) | inr le ↦ inr (omega arith) ]))
+]
 
 pub upto-in : (k s n : ℕ) → s ≤ k → k < s + n → times k (upto s n) ≡ 1
 unfolding upto
 upto-in k s zero le lt = absurd (omega arith)
 upto-in k s (suc n) le lt = elim (hit-is k s) [
-    inl h ↦ omega (arith, h .1, upto-out k (s + 1) n (inl (omega (arith, h .0))))
-  | inr h ↦ omega (arith, h .1, upto-in k (s + 1) n (omega (arith, h .0)) (omega arith)) ]
+  | inl h ↦ omega (arith, h .1, upto-out k (s + 1) n (inl (omega (arith, h .0))))
+  | inr h ↦ omega (arith, h .1, upto-in k (s + 1) n (omega (arith, h .0)) (omega arith))
+]
 
 -- what a run has lies in it
 pub upto-has : (k s n : ℕ) → 0 < times k (upto s n) → (s ≤ k) × (k < s + n)
 upto-has k s n pos = elim (cases-lt k s) [
-    inl lt ↦ absurd (omega (arith, upto-out k s n (inl lt)))
-  | inr ge ↦ elim (cases-lt k (s + n)) [ inl lt ↦ (ge, lt) | inr le ↦ absurd (omega (arith, upto-out k s n (inr le))) ] ]
+  | inl lt ↦ absurd (omega (arith, upto-out k s n (inl lt)))
+  | inr ge ↦ elim (cases-lt k (s + n)) [ inl lt ↦ (ge, lt) | inr le ↦ absurd (omega (arith, upto-out k s n (inr le))) ]
+]
 
 module _ (s : List ℕ) (n : ℕ) (u : Used s n) where
   -- the sectors from the entry i on, where those behind it lie within bounds
@@ -51,8 +54,9 @@ module _ (s : List ℕ) (n : ℕ) (u : Used s n) where
       let lt : i < n = omega arith in
       let more = ap (λ l. times k (extent l)) (rest-more s i (omega (arith, u .most)) (u .before i lt)) ∙ times-++ k (upto (g .start) (g .len)) (extent (rest s (i + 1))) in
       elim (cases-lt 0 (times k (upto (g .start) (g .len)))) [
-        inl here ↦ let r = upto-has k (g .start) (g .len) here in h i (omega arith) lt k (r .0) (r .1)
-      | inr none ↦ from-entry P f (i + 1) (omega arith) (λ j le. h j (omega arith)) k (omega (arith, more)) ]
+        | inl here ↦ let r = upto-has k (g .start) (g .len) here in h i (omega arith) lt k (r .0) (r .1)
+        | inr none ↦ from-entry P f (i + 1) (omega arith) (λ j le. h j (omega arith)) k (omega (arith, more))
+      ]
 
   -- every sector of every used entry has P, so every sector of the file has
   pub each-sector : (P : ℕ → Type 0) → ((j : ℕ) → j < n → (k : ℕ) → segment s j .start ≤ k → k < segment s j .start + segment s j .len → P k) → (k : ℕ) → 0 < times k (extent (segments s)) → P k
@@ -65,8 +69,9 @@ module _ (s : List ℕ) (n : ℕ) (u : Used s n) where
       let g : Segment = segment s i in
       let more = ap (λ l. times k (extent l)) (rest-more s i (omega (arith, u .most)) (u .before i (omega arith))) ∙ times-++ k (upto (g .start) (g .len)) (extent (rest s (i + 1))) in
       elim (cases-eq j i) [
-        inl same ↦ omega (arith, more, upto-in k (g .start) (g .len) (rw same at low) (rw same at high))
-      | inr ne ↦ omega (arith, more, from-has f (i + 1) j k (omega arith) (omega arith) lt low high) ]
+        | inl same ↦ omega (arith, more, upto-in k (g .start) (g .len) (rw same at low) (rw same at high))
+        | inr ne ↦ omega (arith, more, from-has f (i + 1) j k (omega arith) (omega arith) lt low high)
+      ]
 
   pub entry-has : (j k : ℕ) → j < n → segment s j .start ≤ k → k < segment s j .start + segment s j .len → 0 < times k (extent (segments s))
   entry-has j k lt low high = from-has n 0 j k (omega arith) (omega arith) lt low high

@@ -15,7 +15,8 @@ returns c =
     let is = c .nth .ensures ∙ entry-is k xs (c .pre .few) in
     let start : c .nth .result .start ≡ number (16 + k * 5) 3 xs = ap (λ (s : Segment). s .start) (is ∙ segment-numbers xs k) in
     let len : c .nth .result .len ≡ number (16 + k * 5 + 3) 2 xs = ap (λ (s : Segment). s .len) (is ∙ segment-numbers xs k) in
-    record
-      { is = is
-      ; low = omega (arith, start, number-lt (16 + k * 5) 3 xs (λ i. omega (arith, c .typed .descriptor i)))
-      ; short = omega (arith, len, number-lt (16 + k * 5 + 3) 2 xs (λ i. omega (arith, c .typed .descriptor i))) }
+    record {
+      is = is;
+      low = omega (arith, start, number-lt (16 + k * 5) 3 xs (λ i. omega (arith, c .typed .descriptor i)));
+      short = omega (arith, len, number-lt (16 + k * 5 + 3) 2 xs (λ i. omega (arith, c .typed .descriptor i)));
+    }

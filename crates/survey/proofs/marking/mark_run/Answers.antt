@@ -7,9 +7,10 @@ use Rattle.survey.proofs.marking.mark_run.Needs as need
 
 pub loop-k-holds : need.loop-k-holds
 loop-k-holds c =
-    let s = c .args .start in
-    ( λ k. omega (arith, upto-none k s (s - s) (omega arith))
-    , λ i pos. absurd (omega (arith, pos, upto-none i s (s - s) (omega arith))) )
+    let s = c .args .start in (
+      λ k. omega (arith, upto-none k s (s - s) (omega arith)),
+      λ i pos. absurd (omega (arith, pos, upto-none i s (s - s) (omega arith))),
+    )
 
 pub returns-then-marks-k-ne0 : need.returns-then-marks-k-ne0
 returns-then-marks-k-ne0 c =
@@ -21,6 +22,7 @@ returns-then-marks-k-ne0 c =
 
 pub loop-k-again : need.loop-k-again
 loop-k-again c =
-    let inv = c .loop-k .inv in
-    ( mark-more (c .args .marks .now) (c .loop-k .marks) (c .args .start) (c .loop-k .k) (omega arith) (omega arith) (omega arith) (inv .0) (inv .1)
-    , mark-one (c .args .marks .now) (c .loop-k .marks) (c .args .start) (c .loop-k .k) (omega arith) (omega arith) (omega arith) (inv .0) (inv .1) )
+    let inv = c .loop-k .inv in (
+      mark-more (c .args .marks .now) (c .loop-k .marks) (c .args .start) (c .loop-k .k) (omega arith) (omega arith) (omega arith) (inv .0) (inv .1),
+      mark-one (c .args .marks .now) (c .loop-k .marks) (c .args .start) (c .loop-k .k) (omega arith) (omega arith) (omega arith) (inv .0) (inv .1),
+    )

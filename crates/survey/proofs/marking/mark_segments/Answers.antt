@@ -36,9 +36,10 @@ returns-in-Some c =
     let at = c .in-Some .clash in
     let clash = c .in-Some .ensures tt in
     let more = split-times s k g is low (λ z. u .before k (c .loop-k-test .taken) (omega arith)) at in
-    let in-it = upto-has at (g .start) (g .len) (clash .0) in
-    ( entry-has s (c .used-entries-k-end .result) u k at (c .loop-k-test .taken) (omega (arith, in-it .0, start)) (omega (arith, in-it .1, start, len))
-    , omega (arith, clash .1, more, c .loop-k .inv .0 at) )
+    let in-it = upto-has at (g .start) (g .len) (clash .0) in (
+      entry-has s (c .used-entries-k-end .result) u k at (c .loop-k-test .taken) (omega (arith, in-it .0, start)) (omega (arith, in-it .1, start, len)),
+      omega (arith, clash .1, more, c .loop-k .inv .0 at),
+    )
 
 pub loop-k-again : need.loop-k-again
 loop-k-again c =
@@ -50,11 +51,13 @@ loop-k-again c =
     let low : k < 48 = omega (arith, u .most) in
     let len = ap (λ (x : Segment). x .len) is in
     let more = split-times s k g is low (λ z. u .before k (c .loop-k-test .taken) (omega arith)) in
-    let run = c .in-rest .ensures tt in
-    ( λ i. omega (arith, more i, run .0 i, c .loop-k .inv .0 i)
-    , λ i less. elim (cases-lt 0 (times i (upto (g .start) (g .len)))) [
-        inl some ↦ run .1 i some
-      | inr none ↦ omega (arith, run .0 i, c .loop-k .inv .1 i (omega (arith, more i))) ] )
+    let run = c .in-rest .ensures tt in (
+      λ i. omega (arith, more i, run .0 i, c .loop-k .inv .0 i),
+      λ i less. elim (cases-lt 0 (times i (upto (g .start) (g .len)))) [
+        | inl some ↦ run .1 i some
+        | inr none ↦ omega (arith, run .0 i, c .loop-k .inv .1 i (omega (arith, more i)))
+      ],
+    )
 
 pub returns : need.returns
 returns c =

@@ -24,4 +24,4 @@ returns c =
     let u = c .used-entries-k-end .ensures in
     let all : c .loop-k .k ≡ c .used-entries-k-end .result = omega arith in
     let none : length (extent (rest s (c .loop-k .k))) ≡ 0 = ap (λ l. length (extent l)) (ap (rest s) all ∙ rest-end s (c .used-entries-k-end .result) u) in
-    record { is = omega (arith, none, c .loop-k .inv .0) ; few = omega (arith, c .loop-k .inv .1, u .most) }
+    record { is = omega (arith, none, c .loop-k .inv .0); few = omega (arith, c .loop-k .inv .1, u .most) }

@@ -16,5 +16,6 @@ returns-then-stored-i-ge128 c =
     let here = sym (c .if-not-is-name-byte .ensures tt) in
     spelt-end xs n (c .loop-i .proper) (c .if-letter-ne46 .proper) (omega (arith, c .pre)) s here (c .if-stored-i-ge128 .taken)
     (elim (c .if-letter-ne46 .came) [
-        then-letter-ne46 w ↦ rw (w .proper-is) (n, omega arith, w .if-letter-ne46 .taken)
-      | else-letter-ne46 w ↦ rw (w .proper-is) (proper-more xs n (c .loop-i .proper) (s .proper-is) (w .if-letter-ne46 .left)) ])
+      | then-letter-ne46 w ↦ rw (w .proper-is) (n, omega arith, w .if-letter-ne46 .taken)
+      | else-letter-ne46 w ↦ rw (w .proper-is) (proper-more xs n (c .loop-i .proper) (s .proper-is) (w .if-letter-ne46 .left))
+    ])
