@@ -86,3 +86,9 @@ module _ (s : List ℕ) (k : ℕ) (g : Segment) (e : g ≡ segment s k) (h : k <
       ap (λ l. nth l i) split
       ∙ nth-right (upto (g .start) (g .len)) (extent (rest s (k + 1))) i (omega (arith, length-upto (g .start) (g .len)))
       ∙ ap (λ n. nth (extent (rest s (k + 1))) (i - n)) (length-upto (g .start) (g .len))
+
+-- a list that lacks an i-th element is no longer than i
+pub nth-none : (xs : List ℕ) (i : ℕ) → None ≡ nth xs i → length xs ≤ i
+nth-none [] i e = omega arith
+nth-none (y ∷ xs) zero e = absurd (let z : _≡_ {A = ℕ} 0 1 = cc in omega arith)
+nth-none (y ∷ xs) (suc i) e = let r = nth-none xs i e in omega (arith, r)

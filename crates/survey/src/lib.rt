@@ -4,3 +4,4 @@ pub mod descriptor_checks;
 pub mod marking;
 pub mod places;
 pub mod slot_checks;
+pub mod slots;
