@@ -1,3 +1,4 @@
 pub mod Entries
+pub mod MapChecks
 pub mod Marks
 pub mod Slots

@@ -1,6 +1,8 @@
-// The parts of a survey: what it checks of a descriptor and of a slot, and the marks it sets.
+// The parts of a survey: what it checks of a descriptor, of a slot and of the map, and the marks it sets.
 
 pub mod descriptor_checks;
+pub mod finding;
+pub mod map_checks;
 pub mod marking;
 pub mod places;
 pub mod slot_checks;

@@ -12,7 +12,11 @@ use devices::device::SECTOR;
 const SLOTS: usize = 8;
 
 // Reads the slot k of a directory: 32 bytes of one of its sectors.
-pub fn read_slot<D: Device>(device: &D, descriptor: &[u8], k: usize) -> Result<[u8; 32], DeviceFault>
+pub fn read_slot<D: Device>(
+    device: &D,
+    descriptor: &[u8],
+    k: usize,
+) -> Result<[u8; 32], DeviceFault>
     requires wide { ⌜ length (now descriptor) ≡ 256 ⌝ }
     requires held { ⌜ k / 8 < length (extent (segments (now descriptor))) ⌝ }
     ensures { λ r. ⌜ SlotRead (D·Device .meaning (now (device .entry))) (now (descriptor .entry)) k r ⌝ }
