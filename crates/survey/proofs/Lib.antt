@@ -1,4 +1,5 @@
 pub mod Extents
 pub mod Markings
 pub mod Spelt
+pub mod Tidied
 pub mod Within

@@ -1,4 +1,5 @@
 pub mod Entries
 pub mod MapChecks
 pub mod Marks
+pub mod Names
 pub mod Slots

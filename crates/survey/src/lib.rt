@@ -2,8 +2,10 @@
 
 pub mod descriptor_checks;
 pub mod finding;
+pub mod known_names;
 pub mod map_checks;
 pub mod marking;
 pub mod places;
 pub mod slot_checks;
 pub mod slots;
+pub mod waiting;
