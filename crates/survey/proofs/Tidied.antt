@@ -12,6 +12,7 @@ use Rattle.std.proofs.shelf.Ways.{tells}
 use Rattle.layout.specs.Bytes.{over}
 use Rattle.layout.specs.Directory.{slot-name}
 use Rattle.layout.specs.Names.{marked, name-of}
+use Rattle.rules.specs.Rules.{StoredName}
 
 -- a name is not empty
 some : (xs : List ℕ) → 0 < length xs → 0 < length (name-of xs)
@@ -58,3 +59,24 @@ pub filled-name : (bs : List ℕ) (n : ℕ) → length bs ≡ n → n ≤ 28 →
 unfolding over
 filled-name bs n long le =
     ap (λ l. bs ++ l) (ap (λ k. replicate {A = ℕ} k 0) (omega arith) ∙ sym (drop-replicate {X = ℕ} (0 + length bs) 28 0))
+
+-- a name that is cut behind its mark is the same name
+pub name-cut : (xs zs : List ℕ) (n : ℕ) → n < length xs → ((j : ℕ) → j < n → getD xs j 0 < 128) → 128 ≤ getD xs n 0 → name-of (take (n + 1) xs ++ zs) ≡ name-of xs
+name-cut [] zs n lt plain high = absurd (omega arith)
+name-cut (x ∷ xs) zs zero lt plain high =
+    let test : ltb x 128 ≡ false = grind (arith, tells) in
+    rw test refl
+name-cut (x ∷ xs) zs (suc n) lt plain high =
+    let low : x < 128 = plain 0 (omega arith) in
+    let test : ltb x 128 ≡ true = grind (arith, tells) in
+    let next : suc n + 1 ≡ suc (n + 1) = omega arith in
+    rw (next, test) (ap (λ l. x ∷ l) (name-cut xs zs n (omega arith) (λ j less. plain (suc j) (omega arith)) high))
+
+-- what was tidied has the same name
+pub tidied-name : (xs : List ℕ) → length xs ≡ 28 → StoredName xs → name-of (slot-name (marked (name-of xs))) ≡ name-of xs
+tidied-name xs long s =
+    let n = s .last in
+    let cut : length (take (n + 1) xs) ≡ n + 1 = length-take-le (n + 1) xs (omega (arith, s .short)) in
+    ap (λ l. name-of (slot-name l)) (marked-back xs n (omega (arith, s .short)) (s .first) (s .mark))
+    ∙ ap name-of (sym (filled-name (take (n + 1) xs) (n + 1) cut (omega (arith, s .short))))
+    ∙ name-cut xs (replicate (28 - (n + 1)) 0) n (omega (arith, s .short)) (s .first) (s .mark)

@@ -3,3 +3,4 @@ pub mod MapChecks
 pub mod Marks
 pub mod Names
 pub mod Slots
+pub mod Taking

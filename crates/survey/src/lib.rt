@@ -7,5 +7,6 @@ pub mod map_checks;
 pub mod marking;
 pub mod places;
 pub mod slot_checks;
+pub mod slot_taking;
 pub mod slots;
 pub mod waiting;
