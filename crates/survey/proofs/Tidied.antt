@@ -7,7 +7,8 @@ use Prim.Native.Nat.{ℕ, zero, suc, _+_, _-_, _<_, _≤_}
 use native.Mathlib.Omega.{arith}
 use lib.Dec.{ltb}
 use lib.ListN.{length, take, drop, getD, set, replicate, length-take}
-use Rattle.std.proofs.shelf.Lists.{take-more, append-assoc, length-take-le, length-replicate, drop-replicate, set-append-right}
+use Rattle.std.proofs.shelf.Lists.{take-more, getD-past, append-assoc, length-take-le, length-replicate, drop-replicate, set-append-right}
+use Rattle.std.proofs.shelf.Tests.{cases-lt}
 use Rattle.std.proofs.shelf.Ways.{tells}
 use Rattle.layout.specs.Bytes.{over}
 use Rattle.layout.specs.Directory.{slot-name}
@@ -72,11 +73,16 @@ name-cut (x ∷ xs) zs (suc n) lt plain high =
     let next : suc n + 1 ≡ suc (n + 1) = omega arith in
     rw (next, test) (ap (λ l. x ∷ l) (name-cut xs zs n (omega arith) (λ j less. plain (suc j) (omega arith)) high))
 
+-- the mark stands within the bytes
+pub mark-inside : (xs : List ℕ) (n : ℕ) → 128 ≤ getD xs n 0 → n < length xs
+mark-inside xs n high = elim (cases-lt n (length xs)) [ inl lt ↦ lt | inr le ↦ absurd (omega (arith, getD-past xs n 0 le)) ]
+
 -- what was tidied has the same name
-pub tidied-name : (xs : List ℕ) → length xs ≡ 28 → StoredName xs → name-of (slot-name (marked (name-of xs))) ≡ name-of xs
-tidied-name xs long s =
+pub tidied-name : (xs : List ℕ) → StoredName xs → name-of (slot-name (marked (name-of xs))) ≡ name-of xs
+tidied-name xs s =
     let n = s .last in
-    let cut : length (take (n + 1) xs) ≡ n + 1 = length-take-le (n + 1) xs (omega (arith, s .short)) in
-    ap (λ l. name-of (slot-name l)) (marked-back xs n (omega (arith, s .short)) (s .first) (s .mark))
+    let inside = mark-inside xs n (s .mark) in
+    let cut : length (take (n + 1) xs) ≡ n + 1 = length-take-le (n + 1) xs (omega arith) in
+    ap (λ l. name-of (slot-name l)) (marked-back xs n inside (s .first) (s .mark))
     ∙ ap name-of (sym (filled-name (take (n + 1) xs) (n + 1) cut (omega (arith, s .short))))
-    ∙ name-cut xs (replicate (28 - (n + 1)) 0) n (omega (arith, s .short)) (s .first) (s .mark)
+    ∙ name-cut xs (replicate (28 - (n + 1)) 0) n inside (s .first) (s .mark)

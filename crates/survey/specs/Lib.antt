@@ -2,5 +2,6 @@ pub mod Entries
 pub mod MapChecks
 pub mod Marks
 pub mod Names
+pub mod Scanning
 pub mod Slots
 pub mod Taking

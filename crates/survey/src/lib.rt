@@ -6,6 +6,7 @@ pub mod known_names;
 pub mod map_checks;
 pub mod marking;
 pub mod places;
+pub mod scan;
 pub mod slot_checks;
 pub mod slot_taking;
 pub mod slots;

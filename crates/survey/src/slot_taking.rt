@@ -38,20 +38,36 @@ pub fn take_slot(
         return Ok(count);
     }
     if !is_slot_right(slot) {
-        return Err(Finding::Broken { rule: Rule::E, sector: lsn });
+        return Err(Finding::Broken {
+            rule: Rule::E,
+            sector: lsn,
+        });
     }
     let name = tidy_name(&slot[0..28]);
     if is_known(waiting, base, count, &name) {
-        return Err(Finding::Broken { rule: Rule::E, sector: lsn });
+        return Err(Finding::Broken {
+            rule: Rule::E,
+            sector: lsn,
+        });
     }
     let child = named_in(slot);
     if child <= low || child >= high {
-        return Err(Finding::Broken { rule: Rule::B, sector: lsn });
+        return Err(Finding::Broken {
+            rule: Rule::B,
+            sector: lsn,
+        });
     }
     if marks[child] != 0 {
-        return Err(Finding::Broken { rule: Rule::G, sector: child });
+        return Err(Finding::Broken {
+            rule: Rule::G,
+            sector: child,
+        });
     }
     marks[child] = 1;
-    waiting[count] = Waiting { lsn: child, parent: lsn, name };
+    waiting[count] = Waiting {
+        lsn: child,
+        parent: lsn,
+        name,
+    };
     Ok(count + 1)
 }

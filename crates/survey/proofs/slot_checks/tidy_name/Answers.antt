@@ -24,6 +24,7 @@ returns-then-stored-i-ge128 c =
 pub loop-i-again : need.loop-i-again
 loop-i-again c =
     let xs = c .args .stored .now in
-    let i = c .loop-i .i in
-    ( ap (λ l. set l i (getD xs i 0)) (c .loop-i .inv .0) ∙ filled-more xs i (c .pre .long) (omega arith)
-    , below-more _ _ (c .loop-i .inv .1) (c .if-stored-i-ge128 .left) )
+    let i = c .loop-i .i in (
+      ap (λ l. set l i (getD xs i 0)) (c .loop-i .inv .0) ∙ filled-more xs i (c .pre .long) (omega arith),
+      below-more _ _ (c .loop-i .inv .1) (c .if-stored-i-ge128 .left),
+    )
