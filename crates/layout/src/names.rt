@@ -6,6 +6,11 @@ ghost use Rattle.layout.specs.Bytes.{over};
 ghost use Rattle.layout.specs.Names.{name-byte, VolumeName, marked};
 use super::numbers::put;
 
+// "." and ".." as they are stored, bit 7 set on the last byte.
+pub const HERE: [u8; 1] = *b"\xae";
+
+pub const UP: [u8; 2] = *b".\xae";
+
 // A letter, a digit, "_", "$" or ".".
 pub fn is_name_byte(b: u8) -> bool
     ensures { λ r. ⌜ r ≡ name-byte b ⌝ }

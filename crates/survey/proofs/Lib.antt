@@ -1,8 +1,10 @@
 pub mod Blocks
-pub mod Dots
 pub mod Extents
 pub mod Markings
+pub mod Periods
 pub mod Scans
+pub mod SlotReads
 pub mod Spelt
 pub mod Tidied
+pub mod Visits
 pub mod Within

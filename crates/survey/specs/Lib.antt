@@ -5,3 +5,4 @@ pub mod Names
 pub mod Scanning
 pub mod Slots
 pub mod Taking
+pub mod Visiting

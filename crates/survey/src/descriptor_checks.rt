@@ -4,11 +4,13 @@ ghost use lib.ListN.{length};
 ghost use Rattle.std.specs.Orderings.{When};
 ghost use Rattle.rules.specs.Nodes.{is-directory as directory-in};
 ghost use Rattle.rules.specs.Rules.{Tidy, SegmentsWithin, SizeRight, Linked};
+ghost use Rattle.survey.specs.Visiting.{DescriptorAnswer};
 use super::places::held_sectors;
 use super::places::used_entries;
 use layout::descriptor::SEGMENTS;
 use layout::descriptor::segment_at;
 use layout::numbers::number_at;
+use rules::rule::Rule;
 
 // Whether a descriptor is a directory's: bit 7 of its attribute is set.
 pub fn is_directory(descriptor: &[u8]) -> bool
@@ -77,4 +79,25 @@ pub fn is_linked(descriptor: &[u8]) -> bool
         return true;
     }
     number_at(descriptor, 8, 1) == 1
+}
+
+// Asks of a descriptor what can be asked by its own bytes: the first rule that it breaks.
+pub fn check_descriptor(descriptor: &[u8], low: usize, high: usize) -> Result<(), Rule>
+    requires wide { ⌜ length (now descriptor) ≡ 256 ⌝ }
+    requires small { ⌜ high ≤ 65536 ⌝ }
+    ensures { λ r. ⌜ DescriptorAnswer (now (descriptor .entry)) low high r ⌝ }
+{
+    let true = is_linked(descriptor) else {
+        return Err(Rule::F);
+    };
+    let true = is_tidy(descriptor) else {
+        return Err(Rule::C);
+    };
+    let true = segments_within(descriptor, low, high) else {
+        return Err(Rule::B);
+    };
+    let true = is_size_right(descriptor) else {
+        return Err(Rule::D);
+    };
+    Ok(())
 }

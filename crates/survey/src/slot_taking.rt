@@ -12,7 +12,7 @@ use layout::numbers::number_at;
 use rules::rule::Rule;
 
 // The descriptor that a slot names.
-fn named_in(slot: &[u8; 32]) -> usize
+pub fn named_in(slot: &[u8; 32]) -> usize
     ensures { λ r. ⌜ r ≡ named (now (slot .entry)) ⌝ }
 {
     number_at(slot, 29, 3)

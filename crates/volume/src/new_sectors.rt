@@ -13,6 +13,8 @@ use layout::bitmap::map_length;
 use layout::descriptor::put_segment;
 use layout::directory_entry::DirectoryEntry;
 use layout::directory_entry::DirectoryRecord;
+use layout::names::HERE;
+use layout::names::UP;
 use layout::names::put_marked;
 use layout::numbers::four_bytes;
 use layout::numbers::put;
@@ -24,11 +26,6 @@ use layout::stored_slot::StoredSlot;
 
 // The attribute of a new root: a directory that everyone may read, write and search.
 pub const ROOT_ATTRIBUTE: u8 = 0xBF;
-
-// "." and ".." as they are stored, bit 7 set on the last byte.
-pub const HERE: [u8; 1] = *b"\xae";
-
-pub const UP: [u8; 2] = *b".\xae";
 
 // The LSN of the root's descriptor.
 pub fn root_lsn(total: usize) -> usize

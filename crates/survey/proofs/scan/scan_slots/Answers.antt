@@ -8,7 +8,7 @@ use lib.ListN.{length, getD}
 use Rattle.std.specs.shelf.Maps.{nth}
 use Rattle.std.specs.declared.option.Option.the-variants.{Some}
 use Rattle.std.specs.declared.result.Result.the-variants.{Ok, Err}
-use Rattle.devices.specs.Meaning.{Meaning, Whole, Fails}
+use Rattle.devices.specs.Meaning.{Meaning}
 use Rattle.layout.specs.Descriptor.{size, segments, extent, content}
 use Rattle.layout.specs.Records.{record-at}
 use Rattle.rules.specs.Nodes.{times, is-directory}
@@ -20,22 +20,9 @@ use Rattle.survey.specs.Taking.{Breaks, SlotTaken}
 use Rattle.survey.specs.declared.finding.Finding.{Finding}
 use Rattle.survey.specs.declared.finding.Finding.the-variants.{Broken, Unread}
 use Rattle.survey.specs.declared.waiting.Waiting.{Waiting}
-use Rattle.survey.proofs.Blocks.{Wide, slot-block, content-length, nth-times, getD-times}
+use Rattle.survey.proofs.SlotReads.{wide-of, slot-is, count-is, unread}
 use Rattle.survey.proofs.Scans.{Scan, scan-starts, scan-passes, scan-takes, scan-room, breaks-b, breaks-e, breaks-g, scan-ends}
 use Rattle.survey.proofs.scan.scan_slots.Needs as need
-
--- the sectors of a file lie on the device
-wide-of : (d : Meaning) (s : List ℕ) (low high : ℕ) → Whole d → SegmentsWithin s low high → high ≤ d .count → Wide (d .sector) 256 (extent (segments s))
-wide-of d s low high whole within there i lt = whole (getD (extent (segments s)) i 0) (omega (arith, within (getD (extent (segments s)) i 0) (getD-times (extent (segments s)) i lt) .1))
-
--- a slot that was read is the directory's
-slot-is : (d : Meaning) (s xs : List ℕ) (l k p : ℕ) → s ≡ d .sector l → k * 32 + 32 ≤ size s → Wide (d .sector) 256 (extent (segments s)) → nth (extent (segments s)) (k / 8) ≡ Some p → xs ≡ record-at 32 (k % 8) (d .sector p) → xs ≡ slot-bytes-at d l k
-slot-is d s xs l k p is fits wide there read = read ∙ sym (slot-block (d .sector) s k p fits wide there) ∙ ap (λ t. record-at 32 k (content (d .sector) t)) is
-
--- how many slots there are
-count-is : (d : Meaning) (s : List ℕ) (l n : ℕ) → s ≡ d .sector l → Wide (d .sector) 256 (extent (segments s)) → size s ≤ 256 * length (extent (segments s)) → n ≡ size s → slot-count d l ≡ n / 32
-count-is d s l n is wide held e =
-    ap (λ (t : List ℕ). length (content (d .sector) t) / 32) (sym is) ∙ ap (λ i. i / 32) (content-length (d .sector) s wide held ∙ sym e)
 
 module _ (d : Meaning) (l low high base n : ℕ) (m₀ : List ℕ) (ws₀ : List Waiting) (dir : is-directory (d .sector l) ≡ true) (total : slot-count d l ≡ n)
     (k count : ℕ) (m : List ℕ) (ws : List Waiting) (two : 2 ≤ k) (lt : k < n) (s : Scan d l low high base m₀ ws₀ k count m ws) where
@@ -64,14 +51,7 @@ pub loop-k-holds : need.loop-k-holds
 loop-k-holds g c = scan-starts _ _ _ _ _ _ _ (c .pre .some) (c .pre .small)
 
 pub returns-in-Err : need.returns-in-Err
-returns-in-Err g c =
-    let d = g .D·Device .meaning (c .args .device .now) in
-    let s = c .args .descriptor .now in
-    let e = c .in-Err .ensures tt in
-    let some = nth-times (extent (segments s)) (c .loop-k .k / 8) (e .0) (e .1) in (
-      omega (arith, some, ap (λ (l : ℕ). times l (extent (segments s))) (e .2 .0), ap (λ (t : List ℕ). times (c .in-Err .fault .lsn) (extent (segments t))) (c .pre .is)),
-      (refl, subst (λ (l : ℕ). Fails d l 256 (c .in-Err .fault .cause)) (sym (e .2 .0)) (e .2 .1)),
-    )
+returns-in-Err g c = unread (g .D·Device .meaning (c .args .device .now)) (c .args .descriptor .now) (c .args .lsn) (c .loop-k .k) (c .in-Err .fault) (c .pre .is) (c .in-Err .ensures tt)
 
 pub take-slot-requires : need.take-slot-requires
 take-slot-requires g c κs =

@@ -5,11 +5,13 @@ use mathlib.Core.List.{List, [], _∷_}
 use mathlib.Core.Logic.{_⊎_, inl, inr}
 use Prim.Native.Nat.{ℕ, suc, _+_, _-_, _<_, _≤_}
 use native.Mathlib.Omega.{arith}
-use borrow.Author.Tests.{ne-eqb}
+use borrow.Author.Tests.{eq-eqb, ne-eqb}
 use lib.Chars.{codes}
 use lib.Dec.{eqb, ltb}
 use lib.ListN.{length, take, getD}
-use Rattle.std.proofs.shelf.Tests.{cases-lt}
+use Rattle.std.specs.Orderings.{When}
+use Rattle.std.proofs.shelf.Lists.{length-take-le, getD-take}
+use Rattle.std.proofs.shelf.Tests.{cases-eq, cases-lt}
 use Rattle.std.proofs.shelf.Ways.{tells}
 use Rattle.layout.specs.Directory.{Slot, empty, entry, slot, stored-slot}
 use Rattle.layout.specs.Names.{name-of}
@@ -88,3 +90,35 @@ slot-only xs n l = either (eqb (getD xs 0 0) 0)
     either : (b : Bool) → cond b empty (entry (name-of (stored-slot xs .name)) (stored-slot xs .lsn)) ≡ entry n l → (name-of (stored-slot xs .name) ≡ n) × (stored-slot xs .lsn ≡ l)
     either true e = absurd (let z : _≡_ {A = ℕ} 0 1 = cc in omega arith)
     either false e = (cc, cc)
+
+-- a slot of 32 bytes, by its first bytes and its LSN
+module _ (xs : List ℕ) (l : ℕ) (long : length xs ≡ 32) where
+  front : 3 ≤ length (take 28 xs)
+  front = omega (arith, length-take-le 28 xs (omega arith))
+
+  byte : (k : ℕ) → k < 28 → getD (take 28 xs) k 0 ≡ getD xs k 0
+  byte k lt = getD-take 28 xs k 0 lt
+
+  by-lsn : (name : List ℕ) (n : ℕ) → (getD xs 0 0 ≡ 0 → ⊥) → name-of (stored-slot xs .name) ≡ name → n ≡ stored-slot xs .lsn → When (eqb n l) (slot xs ≡ entry name l) (slot xs ≡ entry name l → ⊥)
+  by-lsn name n used is lsn = elim (cases-eq n l) [
+    | inl e ↦ rw (eq-eqb n l e) (slot-has xs name l used is (sym lsn ∙ e))
+    | inr ne ↦ rw (ne-eqb n l ne) (λ e. ne (lsn ∙ slot-only xs name l e .1))
+  ]
+
+  pub slot-here : (n : ℕ) → getD xs 0 0 ≡ 174 → n ≡ stored-slot xs .lsn → When (eqb n l) (slot xs ≡ entry (codes ".") l) (slot xs ≡ entry (codes ".") l → ⊥)
+  unfolding stored-slot
+  slot-here n e lsn = by-lsn (codes ".") n (λ z. omega (arith, z, e)) (here-is (take 28 xs) front (byte 0 (omega arith) ∙ e)) lsn
+
+  pub slot-not-here : (getD xs 0 0 ≡ 174 → ⊥) → slot xs ≡ entry (codes ".") l → ⊥
+  unfolding stored-slot
+  slot-not-here ne e = ne (sym (byte 0 (omega arith)) ∙ here-only (take 28 xs) front (slot-only xs (codes ".") l e .0))
+
+  pub slot-up : (n : ℕ) → getD xs 0 0 ≡ 46 → getD xs 1 0 ≡ 174 → n ≡ stored-slot xs .lsn → When (eqb n l) (slot xs ≡ entry (codes "..") l) (slot xs ≡ entry (codes "..") l → ⊥)
+  unfolding stored-slot
+  slot-up n e f lsn = by-lsn (codes "..") n (λ z. omega (arith, z, e)) (up-is (take 28 xs) front (byte 0 (omega arith) ∙ e) (byte 1 (omega arith) ∙ f)) lsn
+
+  pub slot-not-up : ((getD xs 0 0 ≡ 46) × (getD xs 1 0 ≡ 174) → ⊥) → slot xs ≡ entry (codes "..") l → ⊥
+  unfolding stored-slot
+  slot-not-up ne e =
+      let both = up-only (take 28 xs) front (slot-only xs (codes "..") l e .0) in
+      ne (sym (byte 0 (omega arith)) ∙ both .0, sym (byte 1 (omega arith)) ∙ both .1)
