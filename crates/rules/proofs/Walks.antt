@@ -20,7 +20,7 @@ use Rattle.rules.proofs.Room.{room}
 use Rattle.rules.proofs.Times.{hit-is, hit-self, times-++, times-one}
 
 -- whether a sector is the system's, as 1 or 0
-system-is : (m k : ℕ) → ((k ≤ m) × (system m k ≡ 1)) ⊎ ((m < k) × (system m k ≡ 0))
+pub system-is : (m k : ℕ) → ((k ≤ m) × (system m k ≡ 1)) ⊎ ((m < k) × (system m k ≡ 0))
 system-is m k = elim (cases-lt m k) [
   | inl lt ↦ inr (lt, rw (lt-leb k m lt) refl)
   | inr le ↦ inl (le, rw (le-leb k m le) refl)

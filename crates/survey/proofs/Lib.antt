@@ -1,7 +1,9 @@
 pub mod Blocks
 pub mod Extents
+pub mod Goings
 pub mod Markings
 pub mod Periods
+pub mod Prepares
 pub mod Scans
 pub mod SlotReads
 pub mod Spelt

@@ -2,6 +2,7 @@
 use mathlib.Core.Path.{_≡_, refl, sym, ap, subst, _∙_}
 use mathlib.Core.Bool.{Bool, true, false, cond}
 use mathlib.Core.List.{List}
+use mathlib.Core.Logic.{_⊎_, inl, inr}
 use Prim.Native.Nat.{ℕ, _+_, _<_, _≤_}
 use native.Mathlib.Omega.{arith}
 use lib.ListN.{length, getD}
@@ -50,4 +51,4 @@ module _ (d : Meaning) (l p low high base : ℕ) (m₀ m₁ m₂ : List ℕ) (ws
         small = s .small;
       }
   visited (Err (Broken r at)) s = breaks r at s
-  visited (Err (Unread w f)) s = (omega (arith, s .0), s .1)
+  visited (Err (Unread w f)) s = (omega (arith, s .0), s .1, inr (within (f .lsn) (s .0) .1))

@@ -6,3 +6,4 @@ pub mod Scanning
 pub mod Slots
 pub mod Taking
 pub mod Visiting
+pub mod Walks

@@ -2,6 +2,7 @@
 use mathlib.Core.Path.{_≡_}
 use mathlib.Core.Bool.{true}
 use mathlib.Core.List.{List, _++_}
+use mathlib.Core.Logic.{_⊎_}
 use Prim.Native.Nat.{ℕ, _+_, _<_, _≤_}
 use lib.Chars.{codes}
 use lib.ListN.{length, getD, take}
@@ -54,7 +55,7 @@ VisitBreaks d l p low high marks rule.H at = ⊥
 abbrev pub VisitAnswer : Meaning → ℕ → ℕ → ℕ → ℕ → ℕ → List ℕ → List ℕ → List Waiting → List Waiting → Result ℕ Finding → Type 0
 VisitAnswer d l p low high base marks marks′ ws ws′ (Ok n) = Visit d l p low high base n marks marks′ ws ws′
 VisitAnswer d l p low high base marks marks′ ws ws′ (Err (Broken r at)) = VisitBreaks d l p low high marks r at
-VisitAnswer d l p low high base marks marks′ ws ws′ (Err (Unread w f)) = (0 < times (f .lsn) (holds (d .sector) l)) × Refuses d (f .lsn) 256 f
+VisitAnswer d l p low high base marks marks′ ws ws′ (Err (Unread w f)) = (0 < times (f .lsn) (holds (d .sector) l)) × Refuses d (f .lsn) 256 f × ((f .lsn ≡ l) ⊎ (f .lsn < high))
 
 -- what is asked of a descriptor by its own bytes
 abbrev pub DescriptorAnswer : List ℕ → ℕ → ℕ → Result Unit Rule → Type 0

@@ -13,3 +13,4 @@ pub mod slot_taking;
 pub mod slots;
 pub mod visit;
 pub mod waiting;
+pub mod walk;
