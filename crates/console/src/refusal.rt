@@ -57,5 +57,7 @@ pub fn plain_words(fault: CallFault) -> &'static str {
         ) => {
             "a volume has 16 to 65536 sectors, a name of 1 to 32 letters, digits, \"_\", \"$\" or \".\", and an allocation size of 1 to 255"
         }
+        CallFault::Volume(VolumeFault::Broken { rule: _, sector: _ }) =>
+            "a rule of a sound volume is broken at that sector",
     }
 }

@@ -253,6 +253,8 @@ walk-ends d vs marks ins w =
           subst (SlotsRight d l) (one-parent d vs marks w (v .parent) p l (v .of-parent) of) (v .slots-right dir);
       rule-f = λ l r. visit-of d vs marks w l r .rule-f;
       rule-g = not-twice d vs marks w;
+      below = held-below d vs marks w;
+      small = w .small;
       owned = is-owned d vs marks w;
       others = is-marked d vs marks w;
     }

@@ -71,6 +71,8 @@ pub record Walked (d : Meaning) (marks : ℕ → ℕ) : Type 0 where
   pub rule-e : (l : ℕ) → Found d l → is-directory (d .sector l) ≡ true → RuleE d l
   pub rule-f : (l : ℕ) → Found d l → RuleF d l
   pub rule-g : (k : ℕ) → Twice d k → ⊥
+  pub below : (l k : ℕ) → Found d l → 0 < times k (holds (d .sector) l) → k < sectors-of d
+  pub small : (k : ℕ) → k < sectors-of d → marks k ≤ 1
   pub owned : (k : ℕ) → k < sectors-of d → marks k ≡ 1 → Owned d k
   pub others : (k : ℕ) → k < sectors-of d → Owned d k → marks k ≡ 1
 

@@ -7,6 +7,7 @@ pub mod Prepares
 pub mod Scans
 pub mod SlotReads
 pub mod Spelt
+pub mod Sweeps
 pub mod Tidied
 pub mod Visits
 pub mod Within

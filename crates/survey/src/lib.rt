@@ -8,6 +8,7 @@ pub mod map_checks;
 pub mod marking;
 pub mod places;
 pub mod scan;
+pub mod sector_checks;
 pub mod slot_checks;
 pub mod slot_taking;
 pub mod slots;

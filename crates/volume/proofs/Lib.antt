@@ -2,3 +2,4 @@ pub mod Keeps
 pub mod Layings
 pub mod NewReads
 pub mod NewSound
+pub mod Surveys

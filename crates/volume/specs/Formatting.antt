@@ -15,7 +15,7 @@ use Rattle.volume.specs.NewVolume.{root-of, slots-of, new-identification, take
 use Rattle.volume.specs.declared.fault.Part.{Part}
 use Rattle.volume.specs.declared.fault.Part.the-variants as part
 use Rattle.volume.specs.declared.fault.VolumeFault.{VolumeFault}
-use Rattle.volume.specs.declared.fault.VolumeFault.the-variants.{Device, Refused}
+use Rattle.volume.specs.declared.fault.VolumeFault.the-variants.{Device, Refused, Broken}
 use Rattle.volume.specs.declared.fault.VolumeRefusal.the-variants.{Arguments}
 use Rattle.volume.specs.declared.volume_record.Volume.{Volume}
 
@@ -72,10 +72,12 @@ abbrev pub GoodAnswer : Meaning → ℕ → Result Unit VolumeFault → Type 0
 GoodAnswer m T (Ok u) = GoodTo m (slots-of T)
 GoodAnswer m T (Err (Device r)) = BadSector m T (r .part) (r .fault)
 GoodAnswer m T (Err (Refused r at)) = ⊥
+GoodAnswer m T (Err (Broken r at)) = ⊥
 
 abbrev pub FormatRefuses : Meaning → ℕ → List ℕ → ℕ → VolumeFault → Type 0
 FormatRefuses m T name a (Device r) = Lawful m T name a × BadSector m T (r .part) (r .fault)
 FormatRefuses m T name a (Refused r at) = (r ≡ Arguments) × (at ≡ 0) × (Lawful m T name a → ⊥)
+FormatRefuses m T name a (Broken r at) = ⊥
 
 abbrev pub FormatDone : Meaning → Meaning → ℕ → List ℕ → ℕ → Result Volume VolumeFault → Type 0
 FormatDone m m′ T name a (Ok v) = Lawful m T name a × GoodTo m (slots-of T) × Formatted m m′ T name × Fresh v T (root-of T) a

@@ -4,3 +4,4 @@ pub mod Formatting
 pub mod NewLayout
 pub mod NewVolume
 pub mod Sectors
+pub mod Surveying

@@ -6,6 +6,8 @@ ghost use Rattle.volume.specs.declared.fault.Reading.{Reading};
 use devices::device::CauseDebug;
 use devices::device::DeviceFault;
 use devices::device::DeviceFaultDebug;
+use rules::rule::Rule;
+use rules::rule::RuleDebug;
 
 // The layers of the library, the lowest first. A refusal names the one that it first came from.
 #[derive(Clone, Copy, PartialEq, Eq, Debug)]
@@ -23,13 +25,19 @@ pub enum Part {
     Map,
     Descriptor,
     Directory,
+    // any other sector, for its goodness alone
+    Sector,
 }
 
 // The volume layer's own refusals, with their numbers.
 #[derive(Clone, Copy, PartialEq, Eq, Debug)]
 pub enum VolumeRefusal {
-    // the arguments of format are not lawful
+    // the marks or the waiting list of a survey are shorter than the volume
+    WorkLists = 19,
+    // the arguments of format or of a survey are not lawful
     Arguments = 20,
+    // a rule of a sound volume is broken
+    Broken = 22,
 }
 
 // A device's refusal, with the part that was being read.
@@ -46,6 +54,10 @@ pub enum VolumeFault {
     Refused {
         refusal: VolumeRefusal,
         place: usize,
+    },
+    Broken {
+        rule: Rule,
+        sector: usize,
     },
 }
 
@@ -64,16 +76,18 @@ impl VolumeFault {
         match self {
             VolumeFault::Device(_) => DeviceFault::NUMBER,
             VolumeFault::Refused { refusal, place: _ } => refusal.number(),
+            VolumeFault::Broken { rule: _, sector: _ } => VolumeRefusal::Broken.number(),
         }
     }
 
-    // A sector, for a device's refusal.
+    // A sector, for a device's refusal and for a broken rule.
     pub fn place(self) -> usize
         ensures { λ r. ⌜ r ≡ placeOf self ⌝ }
     {
         match self {
             VolumeFault::Device(reading) => reading.fault.lsn,
             VolumeFault::Refused { refusal: _, place } => place,
+            VolumeFault::Broken { rule: _, sector } => sector,
         }
     }
 
@@ -87,6 +101,7 @@ impl VolumeFault {
                 refusal: _,
                 place: _,
             } => Layer::Volume,
+            VolumeFault::Broken { rule: _, sector: _ } => Layer::Volume,
         }
     }
 }

@@ -7,4 +7,5 @@ pub mod new_map;
 pub mod new_sectors;
 pub mod open_paths;
 pub mod sectors;
+pub mod survey_volume;
 pub mod volume_record;

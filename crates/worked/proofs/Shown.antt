@@ -19,20 +19,21 @@ use Rattle.layout.specs.Identification.{root}
 use Rattle.layout.specs.Map.{map-sectors, map-sector, packed, taken, clear-below}
 use Rattle.layout.proofs.Bits.{packed-same}
 use Rattle.layout.proofs.Clears.{clear-same}
+use Rattle.volume.specs.Faults.{refusal-number}
 use Rattle.volume.specs.Formatting.{FormatDone, Formatted}
 use Rattle.volume.specs.NewLayout.{NewLayout}
 use Rattle.volume.specs.NewVolume.{taken-first}
 use Rattle.volume.specs.declared.fault.Layer.the-variants as layer
 use Rattle.volume.specs.declared.fault.VolumeFault.{VolumeFault}
-use Rattle.volume.specs.declared.fault.VolumeFault.the-variants.{Device, Refused}
-use Rattle.volume.specs.declared.fault.VolumeRefusal.the-variants.{Arguments}
+use Rattle.volume.specs.declared.fault.VolumeFault.the-variants.{Device, Refused, Broken}
 use Rattle.volume.specs.declared.volume_record.Volume.{Volume}
 use Rattle.worked.specs.Cases.{RefusedAs, TrayRefusedAs}
 
 pub fifteen : (m m′ : Meaning) (name : List ℕ) (a : ℕ) (r : Result Volume VolumeFault) → FormatDone m m′ 15 name a r → RefusedAs 20 0 layer.Volume r
 fifteen m m′ name a (Ok v) done = absurd (omega (arith, done .0 .least))
 fifteen m m′ name a (Err (Device r)) done = absurd (omega (arith, done .0 .0 .least))
-fifteen m m′ name a (Err (Refused Arguments at)) done = (refl, done .0 .1, refl)
+fifteen m m′ name a (Err (Refused r at)) done = (ap refusal-number (done .0 .0), done .0 .1, refl)
+fifteen m m′ name a (Err (Broken r at)) done = absurd (done .0)
 
 -- with no bad sector, what the map has as taken
 abbrev sound : ℕ → Bool
