@@ -11,6 +11,7 @@ mod bad_sectors;
 mod flat_images;
 mod formats;
 mod inspections;
+mod surveys;
 mod trays;
 mod windows;
 
