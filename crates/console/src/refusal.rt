@@ -8,6 +8,7 @@ use std::alloc::AllocError;
 use std::alloc::Global;
 use volume::fault::Layer;
 use volume::fault::VolumeFault;
+use volume::fault::VolumeRefusal;
 
 // The name of a layer in a refusal's line.
 pub fn layer_name(layer: Layer) -> &'static str
@@ -49,14 +50,12 @@ pub fn plain_words(fault: CallFault) -> &'static str {
             Cause::Range => "the sector lies past the end of the device",
             Cause::Bad => "the sector is bad, and the volume cannot do without it",
         },
-        CallFault::Volume(
-            VolumeFault::Refused {
-                refusal: _,
-                place: _,
-            },
-        ) => {
-            "a volume has 16 to 65536 sectors, a name of 1 to 32 letters, digits, \"_\", \"$\" or \".\", and an allocation size of 1 to 255"
-        }
+        CallFault::Volume(VolumeFault::Refused { refusal, place: _ }) => match refusal {
+            VolumeRefusal::WorkLists => "the work lists of the survey are shorter than the volume",
+            VolumeRefusal::Arguments =>
+                "a volume has 16 to 65536 sectors, a name of 1 to 32 letters, digits, \"_\", \"$\" or \".\", and an allocation size of 1 to 255",
+            VolumeRefusal::Broken => "a rule of a sound volume is broken",
+        },
         CallFault::Volume(VolumeFault::Broken { rule: _, sector: _ }) =>
             "a rule of a sound volume is broken at that sector",
     }
