@@ -70,3 +70,8 @@ SurveyAnswer d a room marks marks′ (Ok v) = Pass d a marks marks′ v
 SurveyAnswer d a room marks marks′ (Err (Device r)) = Allocation a × Refuses d (r .fault .lsn) 256 (r .fault) × Unreadable d (r .fault .lsn)
 SurveyAnswer d a room marks marks′ (Err (Refused r at)) = (at ≡ 0) × OwnRefusal d a (length marks) room r
 SurveyAnswer d a room marks marks′ (Err (Broken r at)) = Allocation a × BrokenAt d r at
+
+-- a sound volume is never refused, where the allocation size is lawful and the lists are long enough
+abbrev pub Passes : Meaning → ℕ → ℕ → ℕ → Result Volume VolumeFault → Type 0
+Passes d a long room (Ok v) = Unit {0}
+Passes d a long room (Err f) = Sound d → Allocation a → sectors-of d ≤ long → sectors-of d ≤ room → ⊥

@@ -5,7 +5,7 @@ ghost use lib.ListN.{length};
 ghost use Rattle.std.specs.Orderings.{When};
 ghost use Rattle.devices.specs.Meaning.{Whole};
 ghost use Rattle.rules.specs.Rules.{sectors-of, map-of, root-at, RuleA};
-ghost use Rattle.volume.specs.Surveying.{part-read, refusal-for, RootAnswer, SurveyAnswer};
+ghost use Rattle.volume.specs.Surveying.{part-read, refusal-for, RootAnswer, SurveyAnswer, Passes};
 use super::fault::Part;
 use super::fault::Reading as PartReading;
 use super::fault::VolumeFault;
@@ -112,7 +112,8 @@ pub fn survey<D: Device>(
     marks: &mut [u8],
     waiting: &mut [Waiting],
 ) -> Result<Volume, VolumeFault>
-    ensures { λ r. ⌜ SurveyAnswer (D·Device .meaning (now (device .entry))) allocation (length (now (waiting .entry))) (now (marks .entry)) (now (marks .exit)) r ⌝ }
+    ensures answer { λ r. ⌜ SurveyAnswer (D·Device .meaning (now (device .entry))) allocation (length (now (waiting .entry))) (now (marks .entry)) (now (marks .exit)) r ⌝ }
+    ensures passes { λ r. ⌜ Passes (D·Device .meaning (now (device .entry))) allocation (length (now (marks .entry))) (length (now (waiting .entry))) r ⌝ }
 {
     let 1..=255 = allocation else {
         return Err(VolumeFault::Refused {
