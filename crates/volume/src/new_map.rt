@@ -37,7 +37,7 @@ fn map_byte<D: Device>(device: &D, total: usize, first: usize) -> u8
 }
 
 // A sector of the map of a new volume. Each sector that is not written is read once, to see whether it is bad.
-pub fn new_map_sector<D: Device>(device: &D, total: usize, index: usize) -> [u8; SECTOR]
+pub(crate) fn new_map_sector<D: Device>(device: &D, total: usize, index: usize) -> [u8; SECTOR]
     requires many { ⌜ total ≤ 65536 ⌝ }
     requires fits { ⌜ total ≤ D·Device .meaning (now device) .count ⌝ }
     requires low { ⌜ index < 32 ⌝ }

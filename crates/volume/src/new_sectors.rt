@@ -28,7 +28,7 @@ use layout::stored_slot::StoredSlot;
 pub const ROOT_ATTRIBUTE: u8 = 0xBF;
 
 // The LSN of the root's descriptor.
-pub fn root_lsn(total: usize) -> usize
+pub(crate) fn root_lsn(total: usize) -> usize
     requires { ⌜ total ≤ 65536 ⌝ }
     ensures { λ r. ⌜ r ≡ root-of total ⌝ }
 {
@@ -36,7 +36,7 @@ pub fn root_lsn(total: usize) -> usize
 }
 
 // The LSN of the root's slots, the last sector that a new volume has written.
-pub fn slots_lsn(total: usize) -> usize
+pub(crate) fn slots_lsn(total: usize) -> usize
     requires { ⌜ total ≤ 65536 ⌝ }
     ensures { λ r. ⌜ r ≡ slots-of total ⌝ }
 {
@@ -44,7 +44,7 @@ pub fn slots_lsn(total: usize) -> usize
 }
 
 // LSN 0 of a new volume.
-pub fn new_identification(total: usize, name: &[u8]) -> [u8; SECTOR]
+pub(crate) fn new_identification(total: usize, name: &[u8]) -> [u8; SECTOR]
     requires many { ⌜ total ≤ 65536 ⌝ }
     requires named { ⌜ VolumeName (now name) ⌝ }
     ensures { λ r. ⌜ r ≡ new-identification total (now (name .entry)) ⌝ }
@@ -60,7 +60,7 @@ pub fn new_identification(total: usize, name: &[u8]) -> [u8; SECTOR]
 }
 
 // The descriptor of a new root: a directory of 64 bytes in one sector.
-pub fn new_root(total: usize) -> [u8; SECTOR]
+pub(crate) fn new_root(total: usize) -> [u8; SECTOR]
     requires { ⌜ total ≤ 65536 ⌝ }
     ensures { λ r. ⌜ r ≡ new-root total ⌝ }
 {
@@ -90,7 +90,7 @@ fn in_slot(stored: &[u8]) -> [u8; 28]
 }
 
 // The slots of a new root: "." and "..", which both name the root.
-pub fn new_slots(total: usize) -> [u8; SECTOR]
+pub(crate) fn new_slots(total: usize) -> [u8; SECTOR]
     requires { ⌜ total ≤ 65536 ⌝ }
     ensures { λ r. ⌜ r ≡ new-slots total ⌝ }
 {
