@@ -10,8 +10,8 @@ use Rattle.volume.specs.declared.volume_record.Volume.{Volume}
 use Rattle.files.specs.declared.call_fault.CallFault.{CallFault}
 use Rattle.files.specs.declared.call_fault.CallFault.TheVariants as call
 use Rattle.console.specs.declared.image.NewImage.{NewImage}
-use Rattle.console.specs.declared.fault.ToolFault.{ToolFault}
-use Rattle.console.specs.declared.fault.ToolFault.TheVariants.{Call, Memory}
+use Rattle.console.specs.declared.image.ImageFault.{ImageFault}
+use Rattle.console.specs.declared.image.ImageFault.TheVariants.{Call, Memory}
 
 -- a flat image of n sectors of zeros
 abbrev pub blank : ℕ → Meaning
@@ -30,12 +30,11 @@ pub record Made (T : ℕ) (name : List ℕ) (a : ℕ) (i : FlatImage) (v : Volum
   pub fresh : Fresh v T (root_of T) a
 
 -- a refusal is format's; want of memory may refuse too
-abbrev pub ImageRefuses : ℕ → List ℕ → ℕ → ToolFault → Type 0
+abbrev pub ImageRefuses : ℕ → List ℕ → ℕ → ImageFault → Type 0
 ImageRefuses T name a (Call (call.Volume f)) = FormatRefuses (blank (min T 65536)) T name a f
 ImageRefuses T name a (Call (call.Tray f)) = ⊥
-ImageRefuses T name a (Call (call.Refused r at)) = ⊥
 ImageRefuses T name a Memory = Unit {0}
 
-abbrev pub ImageDone : ℕ → List ℕ → ℕ → Result NewImage ToolFault → Type 0
+abbrev pub ImageDone : ℕ → List ℕ → ℕ → Result NewImage ImageFault → Type 0
 ImageDone T name a (Ok n) = Made T name a n.image n.volume
 ImageDone T name a (Err f) = ImageRefuses T name a f

@@ -1,7 +1,6 @@
 ghost use Rattle.std.specs.Prelude.{◌≡◌, ◌*◌, ◌≤◌, IfOk, vec_len};
 ghost use Rattle.console.specs.Images.{blank, image_meaning, ImageDone};
 
-use super::fault::ToolFault;
 use devices::device::SECTOR;
 use devices::flat::FlatImage;
 use files::call_fault::CallFault;
@@ -9,6 +8,13 @@ use std::alloc::{AllocError, Global};
 use volume::fault::VolumeFault;
 use volume::format::format;
 use volume::volume_record::Volume;
+
+// Why no image was made: the call was refused, or there was no memory for its bytes.
+#[derive(Clone, Copy)]
+pub enum ImageFault {
+    Call(CallFault),
+    Memory,
+}
 
 // An image that a new volume fills, and the volume's record.
 #[derive(Drop)]
@@ -36,14 +42,14 @@ pub fn make_image(
     sectors: usize,
     name: &[u8],
     allocation: usize,
-) -> Result<NewImage, ToolFault>
+) -> Result<NewImage, ImageFault>
     ensures { ImageDone sectors name.now allocation result }
 {
     let Ok(mut image) = blank_image(heap, sectors.min(MOST)) else {
-        return Err(ToolFault::Memory);
+        return Err(ImageFault::Memory);
     };
     match format(&mut image, sectors, name, allocation) {
         Ok(volume) => Ok(NewImage { image, volume }),
-        Err(fault) => Err(ToolFault::Call(CallFault::from(fault))),
+        Err(fault) => Err(ImageFault::Call(CallFault::from(fault))),
     }
 }

@@ -1,5 +1,7 @@
 // Devices: what keeps sectors. A device is known by its meaning alone, and every layer above is proved against that.
 
+#![tactic(auto)]
+
 pub mod device;
 pub mod flat;
 pub mod geometry;

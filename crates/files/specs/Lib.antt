@@ -1,4 +1,1 @@
 pub mod CallFaults
-pub mod CallRefusals
-pub mod Passes
-pub mod PathCalls

@@ -1,16 +1,14 @@
 ghost use Rattle.std.specs.Prelude.{◌≡◌};
 ghost use Rattle.files.specs.CallFaults.{of_tray, of_volume, number_of, place_of, layer_of};
 
-use super::call_refusal::CallRefusal;
 use devices::inspection::TrayFault;
 use volume::fault::{Layer, VolumeFault};
 
-// A refusal of a call: its own, with its place, or a lower layer's, whole.
+// A refusal of a call, with the lower layer's refusal whole inside it.
 #[derive(Clone, Copy, Debug)]
 pub enum CallFault {
     Tray(TrayFault),
     Volume(VolumeFault),
-    Refused { refusal: CallRefusal, place: usize },
 }
 
 impl CallFault {
@@ -20,7 +18,6 @@ impl CallFault {
         match self {
             CallFault::Tray(_) => TrayFault::NUMBER,
             CallFault::Volume(fault) => fault.number(),
-            CallFault::Refused { refusal, place: _ } => refusal.number(),
         }
     }
 
@@ -30,7 +27,6 @@ impl CallFault {
         match self {
             CallFault::Tray(fault) => fault.place,
             CallFault::Volume(fault) => fault.place(),
-            CallFault::Refused { refusal: _, place } => place,
         }
     }
 
@@ -41,7 +37,6 @@ impl CallFault {
         match self {
             CallFault::Tray(_) => Layer::Devices,
             CallFault::Volume(fault) => fault.layer(),
-            CallFault::Refused { refusal, place: _ } => refusal.layer(),
         }
     }
 }

@@ -1,5 +1,7 @@
 // The layout of a volume in its sectors: numbers, records, names and the allocation map, read and written by their definitions.
 
+#![tactic(auto)]
+
 pub mod attribute;
 pub mod bitmap;
 pub mod descriptor;

@@ -1,7 +1,5 @@
 pub mod Findings
 pub mod Joins
-pub mod Members
 pub mod Room
-pub mod Runs
 pub mod Times
 pub mod Walks

@@ -23,19 +23,10 @@ named_by (entry name l ∷ ss) = l ∷ named_by ss
 abbrev pub children : (ℕ → List ℕ) → ℕ → List ℕ
 children sector l = cond (is_directory (sector l)) (named_by (drop 2 (slots (content sector (sector l))))) []
 
--- how many of some descriptors are directories', and how many are files'
-abbrev pub directories_in : (ℕ → List ℕ) → List ℕ → ℕ
-directories_in sector [] = 0
-directories_in sector (l ∷ ls) = cond {A = ℕ} (is_directory (sector l)) 1 0 + directories_in sector ls
-
-abbrev pub files_in : (ℕ → List ℕ) → List ℕ → ℕ
-files_in sector [] = 0
-files_in sector (l ∷ ls) = cond {A = ℕ} (is_directory (sector l)) 0 1 + files_in sector ls
-
--- the root is reached, and so is each descriptor that a reached one names
-pub data Reached (names : ℕ → List ℕ) (root : ℕ) : ℕ → Type 0 where
-  at_root : Reached names root root
-  by_slot : (p l : ℕ) → Reached names root p → 0 < times l (names p) → Reached names root l
+-- the root is reached, and so is each descriptor that a reached directory names
+pub data Reached (sector : ℕ → List ℕ) (root : ℕ) : ℕ → Type 0 where
+  at_root : Reached sector root root
+  by_slot : (p l : ℕ) → Reached sector root p → 0 < times l (children sector p) → Reached sector root l
 
 -- the sectors that the descriptor l holds: itself, and those of its segments
 abbrev pub holds : (ℕ → List ℕ) → ℕ → List ℕ
@@ -44,10 +35,10 @@ holds sector l = l ∷ extent (segments (sector l))
 -- the sector k is held by a reached descriptor
 pub record Held (sector : ℕ → List ℕ) (root k : ℕ) : Type 0 where
   pub by : ℕ
-  pub there : Reached (children sector) root by
+  pub there : Reached sector root by
   pub has : 0 < times k (holds sector by)
 
 -- p is the parent of the directory l; the root is its own
 pub data Parent (sector : ℕ → List ℕ) (root : ℕ) : ℕ → ℕ → Type 0 where
   of_root : Parent sector root root root
-  of_child : (p l : ℕ) → Reached (children sector) root p → 0 < times l (children sector p) → Parent sector root p l
+  of_child : (p l : ℕ) → Reached sector root p → 0 < times l (children sector p) → Parent sector root p l

@@ -1,5 +1,5 @@
 -- The walk, one visit after another.
-use Rattle.std.proofs.Common.{◌≡◌, ℕ, zero, suc, ◌+◌, ◌-◌, ◌<◌, ◌≤◌, Bool, true, false, cond, ◌⊎◌, List, [], ◌∷◌, ◌++◌, map, length, get_or, take, Ok, Err, sym, refl, ap, ◌∙◌, subst, ap₂, inl, inr, arith, length-append}
+use Rattle.std.proofs.Common.{◌≡◌, ℕ, zero, suc, ◌+◌, ◌-◌, ◌<◌, ◌≤◌, Bool, true, false, ◌⊎◌, List, [], ◌∷◌, ◌++◌, map, length, get_or, take, Ok, Err, sym, refl, ap, ◌∙◌, subst, ap₂, inl, inr, arith, length-append}
 use Rattle.std.specs.List.{flat_map}
 use Rattle.std.proofs.lemmas.List.{take_more, map-append, get_or-take, get_or-map, get_or-append_right, length-map, length-take-le, get_or_default}
 use Rattle.std.proofs.lemmas.Bool.{cases_lt}
@@ -8,46 +8,30 @@ use Rattle.devices.specs.declared.device.Cause.{Cause}
 use Rattle.devices.specs.declared.device.Cause.TheVariants.{Length, Range, Bad}
 use Rattle.devices.specs.declared.device.DeviceFault.{DeviceFault}
 use Rattle.layout.specs.Descriptor.{segments, extent}
-use Rattle.rules.specs.Nodes.{times, is_directory, children, directories_in, files_in, holds, Held, Parent, of_root, of_child}
+use Rattle.rules.specs.Nodes.{times, is_directory, children, holds, Held, Parent, of_root, of_child}
 use Rattle.rules.specs.Rules.{sectors_of, map_of, root_at, Found, Inside, RuleB, RuleC, RuleD, RuleE, RuleF, Owned, Wanted, Broken}
 use Rattle.rules.specs.Walking.{system, hit, Visited, Walking, Walked}
 use Rattle.rules.specs.declared.rule.Rule.{Rule}
 use Rattle.rules.specs.declared.rule.Rule.TheVariants as rule
 use Rattle.rules.proofs.Times.{hit_is, times-++}
-use Rattle.rules.proofs.Walks.{walk_starts, walk_turns, walk_clashes, walk_fits, walk_ends, walk_lists}
+use Rattle.rules.proofs.Walks.{walk_starts, walk_turns, walk_clashes, walk_fits, walk_ends}
 use Rattle.survey.specs.Names.{nobody}
-use Rattle.survey.specs.Readings.{PartOf, Unreadable}
 use Rattle.survey.specs.Scanning.{lsns}
-use Rattle.survey.specs.Visiting.{Points, Visit, VisitBreaks, VisitUnread, VisitAnswer}
-use Rattle.survey.specs.Walks.{Ended, WalkAnswer}
+use Rattle.survey.specs.Visiting.{Points, Visit, VisitBreaks, VisitAnswer}
+use Rattle.survey.specs.Walks.{WalkAnswer}
 use Rattle.survey.specs.declared.finding.Finding.{Finding}
 use Rattle.survey.specs.declared.finding.Finding.TheVariants as finding
-use Rattle.survey.specs.declared.finding.Reading.{Reading}
-use Rattle.survey.specs.declared.waiting.Tally.{Tally}
 use Rattle.survey.specs.declared.waiting.Waiting.{Waiting}
-use Rattle.rules.proofs.Members.{get_or-times}
+use Rattle.survey.proofs.Blocks.{get_or-times}
 
 -- after some turns: what was visited, and what waits with its parent
-pub record Going (d : Meaning) (m₀ m : List ℕ) (ws : List Waiting) (turn count files directories : ℕ) : Type 0 where
+pub record Going (d : Meaning) (m₀ m : List ℕ) (ws : List Waiting) (turn count : ℕ) : Type 0 where
   pub vs : List ℕ
   pub long : length vs ≡ turn
-  pub files_are : files ≡ files_in d.sector vs
-  pub directories_are : directories ≡ directories_in d.sector vs
-  pub each : files + directories ≡ turn
   pub walking : Walking d vs (lsns count ws) (λ k. get_or m k 0)
   pub parents : (i : ℕ) → i < count → Parent d.sector (root_at d) (get_or ws i nobody).parent (get_or ws i nobody).lsn
   pub most : count ≤ length ws
   pub later : (k : ℕ) → sectors_of d ≤ k → get_or m k 0 ≡ get_or m₀ k 0
-
--- a sector of the device that cannot be read is bad
-spoilt : (d : Meaning) (k : ℕ) (c : Cause) → k < d.count → Fails d k 256 c → (c ≡ Bad) × (d.bad k ≡ true)
-spoilt d k Length lt e = absurd (e refl)
-spoilt d k Range lt e = absurd (omega (arith, e.1))
-spoilt d k Bad lt e = (refl, e.2)
-
-either_one : (b : Bool) → cond {A = ℕ} b 0 1 + cond {A = ℕ} b 1 0 ≡ 1
-either_one true = refl
-either_one false = refl
 
 length-lsns : (n : ℕ) (ws : List Waiting) → n ≤ length ws → length (lsns n ws) ≡ n
 length-lsns n ws le = length-map (take n ws) (λ (w : Waiting). w.lsn) ∙ length-take-le n ws le
@@ -59,7 +43,7 @@ lsns_at : (n i : ℕ) (ws : List Waiting) → n ≤ length ws → i < n → get_
 lsns_at n i ws le lt =
     get_or-map (λ (w : Waiting). w.lsn) (take n ws) i nobody 0 (omega (arith, length-take-le n ws le)) ∙ ap (λ (w : Waiting). w.lsn) (get_or-take n ws i nobody lt)
 
-module _ (d : Meaning) (m₀ m : List ℕ) (ws : List Waiting) (turn base files directories : ℕ) (s : Going d m₀ m ws turn (base + 1) files directories) where
+module _ (d : Meaning) (m₀ m : List ℕ) (ws : List Waiting) (turn base : ℕ) (s : Going d m₀ m ws turn (base + 1)) where
   -- the one that is visited
   abbrev l : ℕ
   l = (get_or ws base nobody).lsn
@@ -125,14 +109,11 @@ module _ (d : Meaning) (m₀ m : List ℕ) (ws : List Waiting) (turn base files 
     old-same : (i : ℕ) → i < base → get_or ws' i nobody ≡ get_or ws i nobody
     old-same i lt = sym (get_or-take base ws' i nobody lt) ∙ ap (λ (xs : List Waiting). get_or xs i nobody) v.old ∙ get_or-take base ws i nobody lt
 
-    pub going_on : (dir : Bool) → dir ≡ is_directory (d.sector l) → Going d m₀ m' ws' (turn + 1) n (files + cond {A = ℕ} dir 0 1) (directories + cond {A = ℕ} dir 1 0)
-    going_on dir is =
+    pub going_on : Going d m₀ m' ws' (turn + 1) n
+    going_on =
         record {
           vs = l ∷ s.vs;
           long = omega (arith, s.long);
-          files_are = omega (arith, s.files_are, ap (λ (b : Bool). cond {A = ℕ} b 0 1) is);
-          directories_are = omega (arith, s.directories_are, ap (λ (b : Bool). cond {A = ℕ} b 1 0) is);
-          each = omega (arith, s.each, either_one dir);
           walking = walk_turns d s.vs (lsns (base + 1) ws) (lsns n ws') l (λ k. get_or m k 0) (λ k. get_or m' k 0) s.walking waits seen (λ k. omega (arith, all-wait k, one_more k)) (λ k lt. v.marked k) v.small;
           parents = λ i lt. elim (cases_lt i base) [
             | inl low ↦
@@ -160,34 +141,23 @@ module _ (d : Meaning) (m₀ m : List ℕ) (ws : List Waiting) (turn base files 
   going_breaks rule.H at b = absurd b
 
   -- a sector that a visit could not read is one that is held, and so it is bad
-  pub going_unread : (w : Reading) (f : DeviceFault) → sectors_of d ≤ d.count → VisitUnread d l (sectors_of d) w f.lsn → Refuses d f.lsn 256 f → Unreadable d w f
-  going_unread w f there (inl (is, e)) refuses =
-      let low : f.lsn < sectors_of d = omega (arith, e, (s.walking.within l (omega (arith, waits))).1) in
-      let bad = spoilt d f.lsn f.cause (omega arith) refuses.1 in
-      record {
-        part = subst (λ (r : Reading). PartOf d r f.lsn) (sym is) (subst (Found d) (sym e) found);
-        cause = bad.0;
-        bad = bad.1;
-        wanted = (low, inl (inr (record { by = l; there = found; has = elim (hit_is f.lsn l) [ inl h ↦ omega (arith, h.1) | inr h ↦ absurd (h.0 e) ] })));
-      }
-  going_unread w f there (inr (is, dir, has, low)) refuses =
-      let bad = spoilt d f.lsn f.cause (omega arith) refuses.1 in
-      record {
-        part = subst (λ (r : Reading). PartOf d r f.lsn) (sym is) (record { by = l; there = found; directory = dir; has = has });
-        cause = bad.0;
-        bad = bad.1;
-        wanted = (low, inl (inr (record { by = l; there = found; has = omega (arith, has) })));
-      }
+  pub going_unread : (f : DeviceFault) → sectors_of d ≤ d.count → 0 < times f.lsn (holds d.sector l) → Refuses d f.lsn 256 f → (f.lsn ≡ l) ⊎ (f.lsn < sectors_of d) → (f.cause ≡ Bad) × (d.bad f.lsn ≡ true) × Wanted d f.lsn
+  going_unread f there has no_one low =
+      let lt : f.lsn < sectors_of d = elim low [ inl e ↦ omega (arith, e, (s.walking.within l (omega (arith, waits))).1) | inr less ↦ less ] in
+      let bad = spoilt f.lsn f.cause (omega arith) no_one.1 in
+      (bad.0, bad.1, (lt, inl (inr (record { by = l; there = found; has = has }))))
+    where
+      spoilt : (k : ℕ) (c : Cause) → k < d.count → Fails d k 256 c → (c ≡ Bad) × (d.bad k ≡ true)
+      spoilt k Length lt e = absurd (e refl)
+      spoilt k Range lt e = absurd (omega (arith, e.1))
+      spoilt k Bad lt e = (refl, e.2)
 
 -- the start, and the end
-pub going_starts : (d : Meaning) (m₀ m : List ℕ) (ws : List Waiting) → Inside d (root_at d) → ((k : ℕ) → k < sectors_of d → get_or m k 0 ≡ system (map_of d) k + hit (root_at d) k) → ((k : ℕ) → sectors_of d ≤ k → get_or m k 0 ≡ get_or m₀ k 0) → 1 ≤ length ws → (get_or ws 0 nobody).lsn ≡ root_at d → (get_or ws 0 nobody).parent ≡ root_at d → Going d m₀ m ws 0 1 0 0
+pub going_starts : (d : Meaning) (m₀ m : List ℕ) (ws : List Waiting) → Inside d (root_at d) → ((k : ℕ) → k < sectors_of d → get_or m k 0 ≡ system (map_of d) k + hit (root_at d) k) → ((k : ℕ) → sectors_of d ≤ k → get_or m k 0 ≡ get_or m₀ k 0) → 1 ≤ length ws → (get_or ws 0 nobody).lsn ≡ root_at d → (get_or ws 0 nobody).parent ≡ root_at d → Going d m₀ m ws 0 1
 going_starts d m₀ m ws in-volume set_up later some lsn parent =
     record {
       vs = [];
       long = refl;
-      files_are = refl;
-      directories_are = refl;
-      each = refl;
       walking = subst (λ (ls : List ℕ). Walking d [] ls (λ k. get_or m k 0)) (sym (lsns_more 0 ws some ∙ ap (λ n. n ∷ []) lsn)) (walk_starts d (λ k. get_or m k 0) in-volume set_up);
       parents = λ i lt.
           let e : i ≡ 0 = omega arith in
@@ -197,42 +167,36 @@ going_starts d m₀ m ws in-volume set_up later some lsn parent =
       later = later;
     }
 
-pub going_ends : (d : Meaning) (m₀ m : List ℕ) (ws : List Waiting) (turn : ℕ) (t : Tally) → Going d m₀ m ws turn 0 t.files t.directories → Ended d m₀ m t
-going_ends d m₀ m ws turn t s =
-    record {
-      walked = walk_ends d s.vs (λ k. get_or m k 0) s.walking;
-      later = s.later;
-      census = record { nodes = s.vs; listed = walk_lists d s.vs (λ k. get_or m k 0) s.walking; files_are = s.files_are; directories_are = s.directories_are };
-    }
+pub going_ends : (d : Meaning) (m₀ m : List ℕ) (ws : List Waiting) (turn : ℕ) → Inside d (root_at d) → Going d m₀ m ws turn 0 → Walked d (λ k. get_or m k 0) × ((k : ℕ) → sectors_of d ≤ k → get_or m k 0 ≡ get_or m₀ k 0)
+going_ends d m₀ m ws turn in-volume s = (walk_ends d s.vs (λ k. get_or m k 0) in-volume s.walking, s.later)
 
 -- after as many turns as the volume has sectors nothing waits
-pub going_done : (d : Meaning) (m₀ m : List ℕ) (ws : List Waiting) (turn count files directories : ℕ) → sectors_of d ≤ turn → Going d m₀ m ws turn count files directories → count ≡ 0
-going_done d m₀ m ws turn count files directories le s = omega (arith, walk_fits d s.vs (lsns count ws) (λ k. get_or m k 0) s.walking, s.long, length-lsns count ws s.most)
+pub going_done : (d : Meaning) (m₀ m : List ℕ) (ws : List Waiting) (turn count : ℕ) → sectors_of d ≤ turn → Going d m₀ m ws turn count → count ≡ 0
+going_done d m₀ m ws turn count le s = omega (arith, walk_fits d s.vs (lsns count ws) (λ k. get_or m k 0) s.walking, s.long, length-lsns count ws s.most)
 
 -- the same, as a turn of the loop has it: the last of those that wait is visited
-module _ (d : Meaning) (m₀ m : List ℕ) (ws : List Waiting) (turn count files directories low high : ℕ) (map_is : low ≡ map_of d) (total_is : high ≡ sectors_of d) (some : count ≡ 0 → ⊥) (s : Going d m₀ m ws turn count files directories) (x : Waiting) where
-  going : Going d m₀ m ws turn ((count - 1) + 1) files directories
-  going = subst (λ (n : ℕ). Going d m₀ m ws turn n files directories) (omega arith) s
+module _ (d : Meaning) (m₀ m : List ℕ) (ws : List Waiting) (turn count low high : ℕ) (map_is : low ≡ map_of d) (total_is : high ≡ sectors_of d) (some : count ≡ 0 → ⊥) (s : Going d m₀ m ws turn count) (x : Waiting) where
+  going : Going d m₀ m ws turn ((count - 1) + 1)
+  going = subst (λ (n : ℕ). Going d m₀ m ws turn n) (omega arith) s
 
   last_is : get_or ws (count - 1) x ≡ get_or ws (count - 1) nobody
   last_is = get_or_default ws (count - 1) x nobody (omega (arith, s.most))
 
   pub turn_listed : (c : ℕ) → times c (lsns (count - 1) ws) ≤ get_or m c 0
-  turn_listed = going_listed d m₀ m ws turn (count - 1) files directories going
+  turn_listed = going_listed d m₀ m ws turn (count - 1) going
 
   pub turn_inside : (c : ℕ) → 0 < times c (lsns (count - 1) ws) → c < high
-  turn_inside c pos = omega (arith, total_is, going_inside d m₀ m ws turn (count - 1) files directories going c pos)
+  turn_inside c pos = omega (arith, total_is, going_inside d m₀ m ws turn (count - 1) going c pos)
 
   pub turn_small : (c : ℕ) → c < high → get_or m c 0 ≤ 1
   turn_small c lt = s.walking.small c (omega (arith, total_is))
 
-  pub turn_on : (n : ℕ) (m' : List ℕ) (ws' : List Waiting) (dir : Bool) → Visit d (get_or ws (count - 1) x).lsn (get_or ws (count - 1) x).parent low high (count - 1) n m m' ws ws' → dir ≡ is_directory (d.sector (get_or ws (count - 1) x).lsn) → Going d m₀ m' ws' (turn + 1) n (files + cond {A = ℕ} dir 0 1) (directories + cond {A = ℕ} dir 1 0)
-  turn_on n m' ws' dir v is =
-      going_on d m₀ m ws turn (count - 1) files directories going n m' ws'
+  pub turn_on : (n : ℕ) (m' : List ℕ) (ws' : List Waiting) → Visit d (get_or ws (count - 1) x).lsn (get_or ws (count - 1) x).parent low high (count - 1) n m m' ws ws' → Going d m₀ m' ws' (turn + 1) n
+  turn_on n m' ws' v =
+      going_on d m₀ m ws turn (count - 1) going n m' ws'
       (subst (λ (w : Waiting). Visit d w.lsn w.parent (map_of d) (sectors_of d) (count - 1) n m m' ws ws') last_is
       (subst (λ (h : ℕ). Visit d (get_or ws (count - 1) x).lsn (get_or ws (count - 1) x).parent (map_of d) h (count - 1) n m m' ws ws') total_is
       (subst (λ (h : ℕ). Visit d (get_or ws (count - 1) x).lsn (get_or ws (count - 1) x).parent h high (count - 1) n m m' ws ws') map_is v)))
-      dir (is ∙ ap (λ (w : Waiting). is_directory (d.sector w.lsn)) last_is)
 
   pub turn_finds : (there : high ≤ d.count) (mₑ m' : List ℕ) (ws' : List Waiting) (f : Finding) → VisitAnswer d (get_or ws (count - 1) x).lsn (get_or ws (count - 1) x).parent low high (count - 1) m m' ws ws' (Err f) → WalkAnswer d mₑ m' (Err f)
   turn_finds there mₑ m' ws' f v =
@@ -242,5 +206,5 @@ module _ (d : Meaning) (m₀ m : List ℕ) (ws : List Waiting) (turn count files
       (subst (λ (h : ℕ). VisitAnswer d (get_or ws (count - 1) x).lsn (get_or ws (count - 1) x).parent h high (count - 1) m m' ws ws' (Err f)) map_is v)))
     where
       either : (f : Finding) → VisitAnswer d (get_or ws (count - 1) nobody).lsn (get_or ws (count - 1) nobody).parent (map_of d) (sectors_of d) (count - 1) m m' ws ws' (Err f) → WalkAnswer d mₑ m' (Err f)
-      either (finding.Broken r at) b = going_breaks d m₀ m ws turn (count - 1) files directories going r at b
-      either (finding.Unread w f) b = going_unread d m₀ m ws turn (count - 1) files directories going w f (omega (arith, there, total_is)) b.0 b.1
+      either (finding.Broken r at) b = going_breaks d m₀ m ws turn (count - 1) going r at b
+      either (finding.Unread w f) b = going_unread d m₀ m ws turn (count - 1) going f (omega (arith, there, total_is)) b.0 b.1 b.2

@@ -1,4 +1,5 @@
-pub mod Chains
+pub mod Blocks
+pub mod Extents
 pub mod Goings
 pub mod Markings
 pub mod Periods

@@ -128,7 +128,7 @@ module _ (d : Meaning) (l low high base : ℕ) (m₀ : List ℕ) (ws₀ : List W
     scan-takes m' ws' fits long t =
         let xs = slot_bytes_at d l k in
         let c₀ = names xs in
-        let w : Waiting = record { lsn = c₀; parent = l; name = tidied xs; before = t.link } in
+        let w : Waiting = record { lsn = c₀; parent = l; name = tidied xs } in
         let e = so_far_used d l k two t.used in
         let q : ws' ≡ set ws count w = t.now_waits in
         let there : get_or ws' count nobody ≡ w = ap (λ (x : List Waiting). get_or x count nobody) q ∙ get_or-set_same ws count w nobody fits in

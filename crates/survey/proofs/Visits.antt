@@ -2,23 +2,20 @@
 use Rattle.std.proofs.Common.{◌≡◌, ℕ, ◌+◌, ◌<◌, ◌≤◌, Bool, true, false, cond, ◌⊎◌, List, length, get_or, Ok, Err, Result, sym, refl, ap, ◌∙◌, subst, inl, inr, arith}
 use Rattle.devices.specs.Meaning.{Meaning}
 use Rattle.layout.specs.Descriptor.{segments, extent}
-use Rattle.layout.specs.Directory.{slot}
-use Rattle.layout.specs.Records.{record_at}
 use Rattle.rules.specs.Nodes.{times, is_directory, children}
-use Rattle.rules.specs.Rules.{SegmentsWithin, Tidy, SizeRight, Linked, slot_bytes_at, SlotsRight}
+use Rattle.rules.specs.Rules.{SegmentsWithin, Tidy, SizeRight, Linked, SlotsRight}
 use Rattle.rules.specs.declared.rule.Rule.{Rule}
 use Rattle.rules.specs.declared.rule.Rule.TheVariants as rule
 use Rattle.survey.specs.Marks.{Marked}
 use Rattle.survey.specs.Scanning.{RightBelow, Scanned, ScanBreaks, ScanAnswer}
-use Rattle.survey.specs.Visiting.{Points, VisitBreaks, VisitAnswer, Dots}
+use Rattle.survey.specs.Visiting.{Points, VisitBreaks, VisitAnswer, Dotted}
 use Rattle.survey.specs.declared.finding.Finding.{Finding}
 use Rattle.survey.specs.declared.finding.Finding.TheVariants.{Broken, Unread}
-use Rattle.survey.specs.declared.waiting.Turn.{Turn}
 use Rattle.survey.specs.declared.waiting.Waiting.{Waiting}
 
 module _ (d : Meaning) (l p low high base : ℕ) (m₀ m₁ m₂ : List ℕ) (ws₀ ws₂ : List Waiting)
     (dir : is_directory (d.sector l) ≡ true) (linked : Linked (d.sector l)) (tidy : Tidy (d.sector l)) (within : SegmentsWithin (d.sector l) low high) (size : SizeRight (d.sector l))
-    (sec : List ℕ) (dots : Dots sec l p) (first : record_at 32 0 sec ≡ slot_bytes_at d l 0) (second : record_at 32 1 sec ≡ slot_bytes_at d l 1) (marks : Marked m₀ (extent (segments (d.sector l))) m₁) where
+    (dots : Dotted d l p) (marks : Marked m₀ (extent (segments (d.sector l))) m₁) where
   breaks : (r : Rule) (at : ℕ) → ScanBreaks d l low high m₁ r at → VisitBreaks d l p low high m₀ r at
   breaks rule.A at b = b
   breaks rule.B at b = (b.0, λ points. b.1 points.children_inside)
@@ -29,27 +26,21 @@ module _ (d : Meaning) (l p low high base : ℕ) (m₀ m₁ m₂ : List ℕ) (ws
   breaks rule.G at b = (b.0, b.1, omega (arith, b.2, marks at))
   breaks rule.H at b = b
 
-  pub visited : (r : Result Turn Finding) → ScanAnswer d l low high base m₁ m₂ ws₀ ws₂ r → VisitAnswer d l p low high base m₀ m₂ ws₀ ws₂ r
-  visited (Ok t) (s, directory) = (
-    record {
-      points = record { segments_inside = within; children_inside = s.inside };
-      rule_c = tidy;
-      rule_d = size;
-      rule_f = linked;
-      slots_right = λ e. record { here = ap slot (sym first) ∙ dots.here; up = ap slot (sym second) ∙ dots.up; right = s.rights.right; distinct = s.rights.distinct };
-      lsns_are = s.lsns_are;
-      old = s.old;
-      enough = s.enough;
-      most = s.most;
-      parents = s.parents;
-      marked = λ c. omega (arith, s.marked c, marks c);
-      small = s.small;
-    },
-    directory ∙ sym dir,
-  )
+  pub visited : (r : Result ℕ Finding) → ScanAnswer d l low high base m₁ m₂ ws₀ ws₂ r → VisitAnswer d l p low high base m₀ m₂ ws₀ ws₂ r
+  visited (Ok n) s =
+      record {
+        points = record { segments_inside = within; children_inside = s.inside };
+        rule_c = tidy;
+        rule_d = size;
+        rule_f = linked;
+        slots_right = λ e. record { here = dots.here; up = dots.up; right = s.rights.right; distinct = s.rights.distinct };
+        lsns_are = s.lsns_are;
+        old = s.old;
+        enough = s.enough;
+        most = s.most;
+        parents = s.parents;
+        marked = λ c. omega (arith, s.marked c, marks c);
+        small = s.small;
+      }
   visited (Err (Broken r at)) s = breaks r at s
-  visited (Err (Unread w f)) s = (inr (s.0, dir, s.1, (within f.lsn s.1).1), s.2)
-
--- slots 0 and 1 are not as they should be
-pub undotted : (d : Meaning) (l p : ℕ) (sec : List ℕ) → record_at 32 0 sec ≡ slot_bytes_at d l 0 → record_at 32 1 sec ≡ slot_bytes_at d l 1 → (Dots sec l p → ⊥) → SlotsRight d l p → ⊥
-undotted d l p sec first second not right = not (record { here = ap slot first ∙ right.here; up = ap slot second ∙ right.up })
+  visited (Err (Unread w f)) s = (omega (arith, s.0), s.1, inr (within f.lsn s.0).1)

@@ -1,8 +1,9 @@
+pub mod Entries
 pub mod MapChecks
 pub mod Marks
 pub mod Names
-pub mod Readings
 pub mod Scanning
+pub mod Slots
 pub mod Taking
 pub mod Visiting
 pub mod Walks

@@ -1,11 +1,9 @@
 -- What the marks and the map ask of each sector.
-use Rattle.std.specs.Prelude.{◌≡◌, ℕ, ◌+◌, ◌*◌, ◌<◌, ◌≤◌, Bool, true, false, cond, ◌⊎◌, List, Ok, Err, Result, nat_le, slice_index}
+use Rattle.std.specs.Prelude.{◌≡◌, ℕ, ◌+◌, ◌*◌, ◌<◌, ◌≤◌, Bool, true, false, ◌⊎◌, List, Ok, Err, Result, slice_index}
 use Rattle.devices.specs.Meaning.{Meaning}
 use Rattle.devices.specs.declared.device.Cause.TheVariants.{Bad}
 use Rattle.layout.specs.Map.{map_sectors, bit_of, taken}
 use Rattle.rules.specs.declared.rule.Rule.TheVariants as rule
-use Rattle.survey.specs.declared.finding.Reading.{Reading}
-use Rattle.survey.specs.declared.finding.Reading.TheVariants as reading
 use Rattle.survey.specs.declared.finding.Finding.{Finding}
 use Rattle.survey.specs.declared.finding.Finding.TheVariants.{Broken, Unread}
 
@@ -23,25 +21,21 @@ pub record Spoilt (d : Meaning) (k mark : ℕ) (set : Bool) : Type 0 where
   pub bad : d.bad k ≡ true
   pub wanted : (0 < mark) ⊎ (set ≡ false)
 
--- the part that a sector is read as, in a volume whose map ends at m
-abbrev pub read_as : ℕ → ℕ → Reading
-read_as m k = cond (nat_le k m) reading.Map reading.Sector
-
-abbrev pub SectorAnswer : Meaning → ℕ → ℕ → ℕ → Bool → Result Unit Finding → Type 0
-SectorAnswer d m k mark set (Ok u) = Right d k mark set
-SectorAnswer d m k mark set (Err (Broken r at)) = (r ≡ rule.H) × (at ≡ k) × Untaken mark set
-SectorAnswer d m k mark set (Err (Unread w f)) = (w ≡ read_as m k) × (f.lsn ≡ k) × (f.cause ≡ Bad) × Spoilt d k mark set
+abbrev pub SectorAnswer : Meaning → ℕ → ℕ → Bool → Result Unit Finding → Type 0
+SectorAnswer d k mark set (Ok u) = Right d k mark set
+SectorAnswer d k mark set (Err (Broken r at)) = (r ≡ rule.H) × (at ≡ k) × Untaken mark set
+SectorAnswer d k mark set (Err (Unread w f)) = (f.lsn ≡ k) × (f.cause ≡ Bad) × Spoilt d k mark set
 
 -- of n sectors from one on, by a row of the map
-abbrev pub RowAnswer : Meaning → ℕ → List ℕ → List ℕ → ℕ → ℕ → Result Unit Finding → Type 0
-RowAnswer d m marks row first n (Ok u) = (i : ℕ) → i < n → Right d (first + i) (slice_index marks (first + i)) (bit_of row i)
-RowAnswer d m marks row first n (Err (Broken r at)) = (r ≡ rule.H) × ((i : ℕ) × (i < n) × (at ≡ first + i) × Untaken (slice_index marks (first + i)) (bit_of row i))
-RowAnswer d m marks row first n (Err (Unread w f)) = (w ≡ read_as m f.lsn) × (f.cause ≡ Bad) × ((i : ℕ) × (i < n) × (f.lsn ≡ first + i) × Spoilt d (first + i) (slice_index marks (first + i)) (bit_of row i))
+abbrev pub RowAnswer : Meaning → List ℕ → List ℕ → ℕ → ℕ → Result Unit Finding → Type 0
+RowAnswer d marks row first n (Ok u) = (i : ℕ) → i < n → Right d (first + i) (slice_index marks (first + i)) (bit_of row i)
+RowAnswer d marks row first n (Err (Broken r at)) = (r ≡ rule.H) × ((i : ℕ) × (i < n) × (at ≡ first + i) × Untaken (slice_index marks (first + i)) (bit_of row i))
+RowAnswer d marks row first n (Err (Unread w f)) = (f.cause ≡ Bad) × ((i : ℕ) × (i < n) × (f.lsn ≡ first + i) × Spoilt d (first + i) (slice_index marks (first + i)) (bit_of row i))
 
 -- of every sector of a volume of T
 abbrev pub MapAnswer : Meaning → List ℕ → ℕ → Result Unit Finding → Type 0
 MapAnswer d marks T (Ok u) = (k : ℕ) → k < T → Right d k (slice_index marks k) (taken d.sector k)
 MapAnswer d marks T (Err (Broken r at)) = (r ≡ rule.H) × (at < T) × Untaken (slice_index marks at) (taken d.sector at)
 MapAnswer d marks T (Err (Unread w f)) =
-    (w ≡ read_as (map_sectors T) f.lsn) × (f.cause ≡ Bad) × (f.lsn < T) × (d.bad f.lsn ≡ true)
+    (f.cause ≡ Bad) × (f.lsn < T) × (d.bad f.lsn ≡ true)
     × (((1 ≤ f.lsn) × (f.lsn ≤ map_sectors T)) ⊎ Spoilt d f.lsn (slice_index marks f.lsn) (taken d.sector f.lsn))

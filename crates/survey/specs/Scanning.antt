@@ -1,5 +1,5 @@
 -- The slots of a directory, from slot 2 on: what a scan asks of them, and what waits after it.
-use Rattle.std.specs.Prelude.{◌≡◌, ℕ, ◌+◌, ◌<◌, ◌≤◌, true, List, [], ◌∷◌, ◌++◌, map, length, take, Ok, Err, Result, ◌≢◌, slice_index, slice_index_or}
+use Rattle.std.specs.Prelude.{◌≡◌, ℕ, ◌+◌, ◌<◌, ◌≤◌, List, [], ◌∷◌, ◌++◌, map, length, take, Ok, Err, Result, ◌≢◌, slice_index, slice_index_or}
 use Rattle.devices.specs.Meaning.{Meaning, Refuses}
 use Rattle.layout.specs.Descriptor.{segments, extent}
 use Rattle.layout.specs.Names.{name_of}
@@ -10,10 +10,8 @@ use Rattle.rules.specs.declared.rule.Rule.TheVariants as rule
 use Rattle.survey.specs.Marks.{Marked}
 use Rattle.survey.specs.Names.{nobody}
 use Rattle.survey.specs.Taking.{Empty}
-use Rattle.survey.specs.declared.finding.Reading.TheVariants as reading
 use Rattle.survey.specs.declared.finding.Finding.{Finding}
 use Rattle.survey.specs.declared.finding.Finding.TheVariants.{Broken, Unread}
-use Rattle.survey.specs.declared.waiting.Turn.{Turn}
 use Rattle.survey.specs.declared.waiting.Waiting.{Waiting}
 
 -- the LSNs of the first n that wait
@@ -48,7 +46,7 @@ ScanBreaks d l low high marks rule.F at = ⊥
 ScanBreaks d l low high marks rule.G at = (low < at) × (at < high) × (2 ≤ slice_index marks at + times at (children d.sector l))
 ScanBreaks d l low high marks rule.H at = ⊥
 
-abbrev pub ScanAnswer : Meaning → ℕ → ℕ → ℕ → ℕ → List ℕ → List ℕ → List Waiting → List Waiting → Result Turn Finding → Type 0
-ScanAnswer d l low high base marks marks' ws ws' (Ok t) = Scanned d l low high base t.waiting marks marks' ws ws' × (t.directory ≡ true)
+abbrev pub ScanAnswer : Meaning → ℕ → ℕ → ℕ → ℕ → List ℕ → List ℕ → List Waiting → List Waiting → Result ℕ Finding → Type 0
+ScanAnswer d l low high base marks marks' ws ws' (Ok n) = Scanned d l low high base n marks marks' ws ws'
 ScanAnswer d l low high base marks marks' ws ws' (Err (Broken r at)) = ScanBreaks d l low high marks r at
-ScanAnswer d l low high base marks marks' ws ws' (Err (Unread w f)) = (w ≡ reading.Directory) × (0 < times f.lsn (extent (segments (d.sector l)))) × Refuses d f.lsn 256 f
+ScanAnswer d l low high base marks marks' ws ws' (Err (Unread w f)) = (0 < times f.lsn (extent (segments (d.sector l)))) × Refuses d f.lsn 256 f

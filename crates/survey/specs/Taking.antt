@@ -30,8 +30,7 @@ pub record Taken (xs : List ℕ) (l low high base count : ℕ) (marks marks' : L
   pub below : names xs < high
   pub unmarked : slice_index_or marks (names xs) 0 ≡ 0
   pub now_marked : marks' ≡ slice_set marks (names xs) 1
-  pub link : ℕ
-  pub now_waits : ws' ≡ slice_set ws count (record { lsn = names xs; parent = l; name = tidied xs; before = link })
+  pub now_waits : ws' ≡ slice_set ws count (record { lsn = names xs; parent = l; name = tidied xs })
 
 -- an empty slot changes nothing
 pub record Passed (xs : List ℕ) (marks marks' : List ℕ) (ws ws' : List Waiting) : Type 0 where

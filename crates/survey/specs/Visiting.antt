@@ -3,18 +3,14 @@ use Rattle.std.specs.Prelude.{◌≡◌, ℕ, ◌+◌, ◌<◌, ◌≤◌, true,
 use Rattle.devices.specs.Meaning.{Meaning, Refuses}
 use Rattle.layout.specs.Descriptor.{segments, extent}
 use Rattle.layout.specs.Directory.{entry, slot}
-use Rattle.layout.specs.Records.{record_at}
 use Rattle.rules.specs.Nodes.{times, is_directory, children, holds}
-use Rattle.rules.specs.Rules.{SegmentsWithin, Tidy, SizeRight, Linked, RuleC, RuleD, RuleF, SlotsRight}
+use Rattle.rules.specs.Rules.{SegmentsWithin, Tidy, SizeRight, Linked, RuleC, RuleD, RuleF, slot_bytes_at, SlotsRight}
 use Rattle.rules.specs.declared.rule.Rule.{Rule}
 use Rattle.rules.specs.declared.rule.Rule.TheVariants as rule
 use Rattle.survey.specs.Names.{nobody}
 use Rattle.survey.specs.Scanning.{lsns}
-use Rattle.survey.specs.declared.finding.Reading.{Reading}
-use Rattle.survey.specs.declared.finding.Reading.TheVariants as reading
 use Rattle.survey.specs.declared.finding.Finding.{Finding}
 use Rattle.survey.specs.declared.finding.Finding.TheVariants.{Broken, Unread}
-use Rattle.survey.specs.declared.waiting.Turn.{Turn}
 use Rattle.survey.specs.declared.waiting.Waiting.{Waiting}
 
 -- what the descriptor l points to lies behind low and below high
@@ -48,16 +44,10 @@ VisitBreaks d l p low high marks rule.F at = (at ≡ l) × (RuleF d l → ⊥)
 VisitBreaks d l p low high marks rule.G at = (low < at) × (at < high) × (2 ≤ slice_index marks at + times at (extent (segments (d.sector l))) + times at (children d.sector l))
 VisitBreaks d l p low high marks rule.H at = ⊥
 
--- what a visit cannot read: the descriptor itself, or a sector of its slots
-abbrev pub VisitUnread : Meaning → ℕ → ℕ → Reading → ℕ → Type 0
-VisitUnread d l high w k =
-    ((w ≡ reading.Descriptor) × (k ≡ l))
-    ⊎ ((w ≡ reading.Directory) × (is_directory (d.sector l) ≡ true) × (0 < times k (extent (segments (d.sector l)))) × (k < high))
-
-abbrev pub VisitAnswer : Meaning → ℕ → ℕ → ℕ → ℕ → ℕ → List ℕ → List ℕ → List Waiting → List Waiting → Result Turn Finding → Type 0
-VisitAnswer d l p low high base marks marks' ws ws' (Ok t) = Visit d l p low high base t.waiting marks marks' ws ws' × (t.directory ≡ is_directory (d.sector l))
+abbrev pub VisitAnswer : Meaning → ℕ → ℕ → ℕ → ℕ → ℕ → List ℕ → List ℕ → List Waiting → List Waiting → Result ℕ Finding → Type 0
+VisitAnswer d l p low high base marks marks' ws ws' (Ok n) = Visit d l p low high base n marks marks' ws ws'
 VisitAnswer d l p low high base marks marks' ws ws' (Err (Broken r at)) = VisitBreaks d l p low high marks r at
-VisitAnswer d l p low high base marks marks' ws ws' (Err (Unread w f)) = VisitUnread d l high w f.lsn × Refuses d f.lsn 256 f
+VisitAnswer d l p low high base marks marks' ws ws' (Err (Unread w f)) = (0 < times f.lsn (holds d.sector l)) × Refuses d f.lsn 256 f × ((f.lsn ≡ l) ⊎ (f.lsn < high))
 
 -- what is asked of a descriptor by its own bytes
 abbrev pub DescriptorAnswer : List ℕ → ℕ → ℕ → Result Unit Rule → Type 0
@@ -71,7 +61,12 @@ DescriptorAnswer s low high (Err rule.F) = Linked s → ⊥
 DescriptorAnswer s low high (Err rule.G) = ⊥
 DescriptorAnswer s low high (Err rule.H) = ⊥
 
--- the first two slots of a directory's first sector: the directory is l, its parent p
-pub record Dots (sector : List ℕ) (l p : ℕ) : Type 0 where
-  pub here : slot (record_at 32 0 sector) ≡ entry (codes ".") l
-  pub up : slot (record_at 32 1 sector) ≡ entry (codes "..") p
+-- slots 0 and 1 of the directory l, whose parent is p
+pub record Dotted (d : Meaning) (l p : ℕ) : Type 0 where
+  pub here : slot (slot_bytes_at d l 0) ≡ entry (codes ".") l
+  pub up : slot (slot_bytes_at d l 1) ≡ entry (codes "..") p
+
+abbrev pub DotsAnswer : Meaning → ℕ → ℕ → Result Unit Finding → Type 0
+DotsAnswer d l p (Ok u) = Dotted d l p
+DotsAnswer d l p (Err (Broken r at)) = (r ≡ rule.E) × (at ≡ l) × (Dotted d l p → ⊥)
+DotsAnswer d l p (Err (Unread w f)) = (0 < times f.lsn (extent (segments (d.sector l)))) × Refuses d f.lsn 256 f

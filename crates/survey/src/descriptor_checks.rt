@@ -3,7 +3,7 @@ ghost use Rattle.rules.specs.Nodes.{is_directory as directory_in};
 ghost use Rattle.rules.specs.Rules.{Tidy, SegmentsWithin, SizeRight, Linked};
 ghost use Rattle.survey.specs.Visiting.{DescriptorAnswer};
 
-use descriptors::places::{held_sectors, used_entries};
+use super::places::{held_sectors, used_entries};
 use layout::descriptor::{SEGMENTS, segment_at};
 use layout::numbers::number_at;
 use rules::rule::Rule;

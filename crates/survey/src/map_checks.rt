@@ -9,16 +9,10 @@ use rules::rule::Rule;
 // How many bits a sector of the map has.
 const BITS: usize = 2048;
 
-// Asks of one sector that its bit is set where it is marked, and that it is good where it is marked or clear. The map ends at LSN `map`.
-fn check_sector<D: Device>(
-    device: &D,
-    map: usize,
-    k: usize,
-    mark: u8,
-    set: bool,
-) -> Result<(), Finding>
+// Asks of one sector that its bit is set where it is marked, and that it is good where it is marked or clear.
+fn check_sector<D: Device>(device: &D, k: usize, mark: u8, set: bool) -> Result<(), Finding>
     requires { k < (D.Device.meaning device.now).count }
-    ensures { SectorAnswer (D.Device.meaning device.now) map k mark set result }
+    ensures { SectorAnswer (D.Device.meaning device.now) k mark set result }
 {
     if set && mark == 0 {
         return Ok(());
@@ -32,11 +26,7 @@ fn check_sector<D: Device>(
     let mut sector = [0u8; SECTOR];
     if let Err(fault) = device.read(k, &mut sector) {
         return Err(Finding::Unread {
-            reading: if k <= map {
-                Reading::Map
-            } else {
-                Reading::Sector
-            },
+            reading: Reading::Sector,
             fault,
         });
     }
@@ -46,7 +36,6 @@ fn check_sector<D: Device>(
 // Asks the same of the sectors whose bits a map sector has.
 fn check_row<D: Device>(
     device: &D,
-    map: usize,
     marks: &[u8],
     row: &[u8],
     first: usize,
@@ -55,16 +44,10 @@ fn check_row<D: Device>(
     requires wide { n ≤ 8 * length row.now }
     requires marked { first + n ≤ length marks.now }
     requires there { first + n ≤ (D.Device.meaning device.now).count }
-    ensures { RowAnswer (D.Device.meaning device.now) map marks.now row.now first n result }
+    ensures { RowAnswer (D.Device.meaning device.now) marks.now row.now first n result }
 {
     for i in 0..n {
-        if let Err(finding) = check_sector(
-            device,
-            map,
-            first + i,
-            marks[first + i],
-            is_set(row, i),
-        ) {
+        if let Err(finding) = check_sector(device, first + i, marks[first + i], is_set(row, i)) {
             return Err(finding);
         }
     }
@@ -80,8 +63,7 @@ pub fn check_map<D: Device>(device: &D, marks: &[u8], total: usize) -> Result<()
     ensures { MapAnswer (D.Device.meaning device.now) marks.now total result }
 {
     let mut row = [0u8; SECTOR];
-    let map = map_length(total);
-    for index in 0..map {
+    for index in 0..map_length(total) {
         if let Err(fault) = device.read(1 + index, &mut row) {
             return Err(Finding::Unread {
                 reading: Reading::Map,
@@ -89,7 +71,7 @@ pub fn check_map<D: Device>(device: &D, marks: &[u8], total: usize) -> Result<()
             });
         }
         let first = index * BITS;
-        if let Err(finding) = check_row(device, map, marks, &row, first, BITS.min(total - first)) {
+        if let Err(finding) = check_row(device, marks, &row, first, BITS.min(total - first)) {
             return Err(finding);
         }
     }

@@ -3,7 +3,7 @@ ghost use Rattle.layout.specs.Descriptor.{segments, upto, extent};
 ghost use Rattle.rules.specs.Rules.{SegmentsWithin};
 ghost use Rattle.survey.specs.Marks.{Marking};
 
-use descriptors::places::used_entries;
+use super::places::used_entries;
 use layout::descriptor::segment_at;
 
 // Marks a run of sectors, up to the first that is marked already.

@@ -2,32 +2,27 @@ ghost use Rattle.std.specs.Prelude.{◌≡◌, ℕ, ◌<◌, ◌≤◌, true, le
 ghost use Rattle.devices.specs.Meaning.{Whole};
 ghost use Rattle.rules.specs.Nodes.{times, is_directory as directory_in};
 ghost use Rattle.rules.specs.Rules.{SegmentsWithin, SizeRight};
-ghost use Rattle.content.specs.Slots.{SlotsAt};
 ghost use Rattle.survey.specs.Scanning.{lsns, ScanAnswer};
 
 use super::finding::{Finding, Reading};
-use super::known_names::BUCKETS;
 use super::slot_taking::take_slot;
-use super::waiting::{Turn, Waiting};
-use content::slots::{SLOTS, read_slots, slot_in};
-use devices::device::{Device, SECTOR};
+use super::slots::read_slot;
+use super::waiting::Waiting;
+use devices::device::Device;
 use layout::numbers::number_at;
 
 // Scans the slots of the directory `lsn`, from slot 2 on: what they name is marked and waits behind the first `base`.
-// The directory's first sector was read; each other one is read once.
 pub fn scan_slots<D: Device>(
     device: &D,
-    descriptor: &[u8; SECTOR],
-    first: [u8; SECTOR],
+    descriptor: &[u8; 256],
     lsn: usize,
     low: usize,
     high: usize,
     marks: &mut [u8],
     waiting: &mut [Waiting],
     base: usize,
-) -> Result<Turn, Finding>
+) -> Result<usize, Finding>
     requires is { descriptor.now ≡ (D.Device.meaning device.now).sector lsn }
-    requires begins { SlotsAt (D.Device.meaning device.now) descriptor.now 0 first }
     requires directory { directory_in descriptor.now ≡ true }
     requires size { SizeRight descriptor.now }
     requires within { SegmentsWithin descriptor.now low high }
@@ -42,31 +37,21 @@ pub fn scan_slots<D: Device>(
     ensures { ScanAnswer (D.Device.meaning device.now) lsn low high base marks.old marks.new waiting.old waiting.new result }
 {
     let slots = number_at(descriptor, 9, 4) / 32;
-    let mut heads = [0; BUCKETS];
     let mut count = base;
-    let mut sector = first;
     for k in 2..slots {
-        if k % SLOTS == 0 {
-            match read_slots(device, descriptor, k / SLOTS) {
-                Ok(next) => sector = next,
-                Err(fault) => {
-                    return Err(Finding::Unread {
-                        reading: Reading::Directory,
-                        fault,
-                    });
-                }
+        let slot = match read_slot(device, descriptor, k) {
+            Ok(slot) => slot,
+            Err(fault) => {
+                return Err(Finding::Unread {
+                    reading: Reading::Directory,
+                    fault,
+                });
             }
-        }
-        let slot = slot_in(&sector, k % SLOTS);
-        match take_slot(
-            &slot, lsn, low, high, marks, waiting, &mut heads, base, count,
-        ) {
+        };
+        match take_slot(&slot, lsn, low, high, marks, waiting, base, count) {
             Ok(n) => count = n,
             Err(finding) => return Err(finding),
         }
     }
-    Ok(Turn {
-        waiting: count,
-        directory: true,
-    })
+    Ok(count)
 }

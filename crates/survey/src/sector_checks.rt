@@ -1,11 +1,11 @@
-ghost use Rattle.std.specs.Prelude.{◌≡◌, ℕ, ◌<◌, ◌≤◌, false, length};
+ghost use Rattle.std.specs.Prelude.{◌≡◌, ℕ, ◌<◌, ◌≤◌, length};
 ghost use Rattle.devices.specs.Meaning.{Whole};
 ghost use Rattle.rules.specs.Rules.{sectors_of, map_of, root_at, Inside};
 ghost use Rattle.survey.specs.Walks.{CheckAnswer};
 
 use super::finding::Finding;
 use super::map_checks::check_map;
-use super::waiting::{Tally, Waiting};
+use super::waiting::Waiting;
 use super::walk::walk;
 use devices::device::Device;
 
@@ -17,12 +17,11 @@ pub fn check_sectors<D: Device>(
     high: usize,
     marks: &mut [u8],
     waiting: &mut [Waiting],
-) -> Result<Tally, Finding>
+) -> Result<(), Finding>
     requires total { high ≡ sectors_of (D.Device.meaning device.now) }
     requires map { low ≡ map_of (D.Device.meaning device.now) }
     requires top { root ≡ root_at (D.Device.meaning device.now) }
     requires inside { Inside (D.Device.meaning device.now) (root_at (D.Device.meaning device.now)) }
-    requires first { (D.Device.meaning device.now).bad 0 ≡ false }
     requires least { 16 ≤ high }
     requires many { high ≤ 65536 }
     requires there { high ≤ (D.Device.meaning device.now).count }
@@ -31,12 +30,8 @@ pub fn check_sectors<D: Device>(
     requires marked { high ≤ length marks.old }
     ensures { CheckAnswer (D.Device.meaning device.now) marks.old marks.new result }
 {
-    let tally = match walk(device, root, low, high, marks, waiting) {
-        Ok(tally) => tally,
-        Err(finding) => return Err(finding),
-    };
-    if let Err(finding) = check_map(device, marks, high) {
+    if let Err(finding) = walk(device, root, low, high, marks, waiting) {
         return Err(finding);
     }
-    Ok(tally)
+    check_map(device, marks, high)
 }

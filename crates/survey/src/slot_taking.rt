@@ -1,10 +1,9 @@
-ghost use Rattle.std.specs.Prelude.{◌≡◌, ℕ, ◌<◌, ◌≤◌, length, IfOk, slice_index};
+ghost use Rattle.std.specs.Prelude.{◌≡◌, ℕ, ◌<◌, ◌≤◌, length, slice_index};
 ghost use Rattle.layout.specs.Directory.{stored_slot as slot_in};
-ghost use Rattle.survey.specs.Names.{Chained};
 ghost use Rattle.survey.specs.Taking.{SlotTaken, names as named};
 
 use super::finding::Finding;
-use super::known_names::{bucket, is_known};
+use super::known_names::is_known;
 use super::slot_checks::{is_slot_right, tidy_name};
 use super::waiting::Waiting;
 use layout::numbers::number_at;
@@ -25,17 +24,13 @@ pub fn take_slot(
     high: usize,
     marks: &mut [u8],
     waiting: &mut [Waiting],
-    heads: &mut [usize],
     base: usize,
     count: usize,
 ) -> Result<usize, Finding>
     requires marked { high ≤ length marks.old }
     requires some { count ≤ length waiting.old }
-    requires buckets { length heads.old ≡ 1021 }
-    requires chained { Chained heads.old waiting.old base count }
     requires room { (c : ℕ) → c < high → slice_index marks.old c ≡ 0 → count < length waiting.old }
-    ensures taken { SlotTaken slot.now lsn low high base count marks.old marks.new waiting.old waiting.new result }
-    ensures chained { IfOk result (λ n. Chained heads.new waiting.new base n) }
+    ensures { SlotTaken slot.now lsn low high base count marks.old marks.new waiting.old waiting.new result }
 {
     if slot[0] == 0 {
         return Ok(count);
@@ -47,7 +42,7 @@ pub fn take_slot(
         });
     }
     let name = tidy_name(&slot[0..28]);
-    if is_known(waiting, base, count, heads, &name) {
+    if is_known(waiting, base, count, &name) {
         return Err(Finding::Broken {
             rule: Rule::E,
             sector: lsn,
@@ -67,13 +62,10 @@ pub fn take_slot(
         });
     }
     marks[child] = 1;
-    let chain = bucket(&name);
     waiting[count] = Waiting {
         lsn: child,
         parent: lsn,
         name,
-        before: heads[chain],
     };
-    heads[chain] = count + 1;
     Ok(count + 1)
 }

@@ -5,12 +5,11 @@ ghost use Rattle.survey.specs.Scanning.{lsns};
 ghost use Rattle.survey.specs.Visiting.{VisitAnswer};
 
 use super::descriptor_checks::{check_descriptor, is_directory};
-use super::dots::has_dots;
+use super::dots::check_dots;
 use super::finding::{Finding, Reading};
 use super::marking::mark_segments;
 use super::scan::scan_slots;
-use super::waiting::{Turn, Waiting};
-use content::slots::read_slots;
+use super::waiting::Waiting;
 use devices::device::{Device, SECTOR};
 use rules::rule::Rule;
 
@@ -24,7 +23,7 @@ pub fn visit<D: Device>(
     marks: &mut [u8],
     waiting: &mut [Waiting],
     base: usize,
-) -> Result<Turn, Finding>
+) -> Result<usize, Finding>
     requires many { high ≤ 65536 }
     requires there { high ≤ (D.Device.meaning device.now).count }
     requires whole { Whole (D.Device.meaning device.now) }
@@ -53,35 +52,10 @@ pub fn visit<D: Device>(
         });
     }
     if !is_directory(&descriptor) {
-        return Ok(Turn {
-            waiting: base,
-            directory: false,
-        });
+        return Ok(base);
     }
-    let first = match read_slots(device, &descriptor, 0) {
-        Ok(sector) => sector,
-        Err(fault) => {
-            return Err(Finding::Unread {
-                reading: Reading::Directory,
-                fault,
-            });
-        }
-    };
-    if !has_dots(&first, lsn, parent) {
-        return Err(Finding::Broken {
-            rule: Rule::E,
-            sector: lsn,
-        });
+    if let Err(finding) = check_dots(device, &descriptor, lsn, parent) {
+        return Err(finding);
     }
-    scan_slots(
-        device,
-        &descriptor,
-        first,
-        lsn,
-        low,
-        high,
-        marks,
-        waiting,
-        base,
-    )
+    scan_slots(device, &descriptor, lsn, low, high, marks, waiting, base)
 }

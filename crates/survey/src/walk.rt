@@ -5,7 +5,7 @@ ghost use Rattle.survey.specs.Walks.{Prepared, WalkAnswer};
 
 use super::finding::Finding;
 use super::visit::visit;
-use super::waiting::{Tally, Waiting};
+use super::waiting::Waiting;
 use devices::device::Device;
 
 // Marks the system's sectors and the root's descriptor, and no other sector of the volume.
@@ -31,7 +31,7 @@ pub fn walk<D: Device>(
     high: usize,
     marks: &mut [u8],
     waiting: &mut [Waiting],
-) -> Result<Tally, Finding>
+) -> Result<(), Finding>
     requires total { high ≡ sectors_of (D.Device.meaning device.now) }
     requires map { low ≡ map_of (D.Device.meaning device.now) }
     requires top { root ≡ root_at (D.Device.meaning device.now) }
@@ -48,14 +48,11 @@ pub fn walk<D: Device>(
         lsn: root,
         parent: root,
         name: [0; 28],
-        before: 0,
     };
     let mut count = 1;
-    let mut files = 0;
-    let mut directories = 0;
     for turn in 0..high {
         if count == 0 {
-            return Ok(Tally { files, directories });
+            return Ok(());
         }
         let next = waiting[count - 1];
         match visit(
@@ -68,16 +65,9 @@ pub fn walk<D: Device>(
             waiting,
             count - 1,
         ) {
-            Ok(next) => {
-                count = next.waiting;
-                if next.directory {
-                    directories += 1;
-                } else {
-                    files += 1;
-                }
-            }
+            Ok(n) => count = n,
             Err(finding) => return Err(finding),
         }
     }
-    Ok(Tally { files, directories })
+    Ok(())
 }

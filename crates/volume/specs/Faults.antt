@@ -19,7 +19,6 @@ carried (Ok x) p = Ok x
 carried (Err f) p = Err (record { part = p; fault = f })
 
 abbrev pub refusal_number : VolumeRefusal → ℕ
-refusal_number refusal.Full = 16
 refusal_number refusal.WorkLists = 19
 refusal_number refusal.Arguments = 20
 refusal_number refusal.Broken = 22

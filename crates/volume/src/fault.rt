@@ -29,8 +29,6 @@ pub enum Part {
 // The volume layer's own refusals, with their numbers.
 #[derive(Clone, Copy, PartialEq, Eq, Debug)]
 pub enum VolumeRefusal {
-    // fewer sectors are clear than are needed
-    Full = 16,
     // the marks or the waiting list of a survey are shorter than the volume
     WorkLists = 19,
     // the arguments of format or of a survey are not lawful

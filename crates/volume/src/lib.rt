@@ -5,7 +5,7 @@ pub mod fault;
 pub mod format;
 pub mod new_map;
 pub mod new_sectors;
+pub mod open_paths;
 pub mod sectors;
 pub mod survey_volume;
-pub mod surveyed;
 pub mod volume_record;

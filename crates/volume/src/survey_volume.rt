@@ -1,11 +1,10 @@
 ghost use Rattle.std.specs.Prelude.{◌≡◌, ℕ, ◌<◌, ◌≤◌, true, length, MatchBool};
 ghost use Rattle.devices.specs.Meaning.{Whole};
 ghost use Rattle.rules.specs.Rules.{sectors_of, map_of, root_at, RuleA};
-ghost use Rattle.volume.specs.Surveying.{part_read, refusal_for, RootAnswer, SurveyAnswer, CountedAnswer, Passes};
+ghost use Rattle.volume.specs.Surveying.{part_read, refusal_for, RootAnswer, SurveyAnswer, Passes};
 
 use super::fault::{Part, Reading as PartReading, VolumeFault, VolumeRefusal};
 use super::sectors::load;
-use super::surveyed::Surveyed;
 use super::volume_record::Volume;
 use devices::device::{Device, SECTOR};
 use layout::bitmap::{map_bytes, map_length};
@@ -107,20 +106,6 @@ pub fn survey<D: Device>(
     ensures answer { SurveyAnswer (D.Device.meaning device.now) allocation (length waiting.old) marks.old marks.new result }
     ensures passes { Passes (D.Device.meaning device.now) allocation (length marks.old) (length waiting.old) result }
 {
-    let surveyed = survey_counted(device, allocation, marks, waiting)?;
-    Ok(surveyed.volume)
-}
-
-// The same, and counts the files and directories on the way.
-pub fn survey_counted<D: Device>(
-    device: &D,
-    allocation: usize,
-    marks: &mut [u8],
-    waiting: &mut [Waiting],
-) -> Result<Surveyed, VolumeFault>
-    ensures answer { CountedAnswer (D.Device.meaning device.now) allocation (length waiting.old) marks.old marks.new result }
-    ensures passes { Passes (D.Device.meaning device.now) allocation (length marks.old) (length waiting.old) result }
-{
     let 1..=255 = allocation else {
         return Err(VolumeFault::Refused {
             refusal: VolumeRefusal::Arguments,
@@ -144,12 +129,8 @@ pub fn survey_counted<D: Device>(
         });
     }
     check_root(device, root, low, total)?;
-    match check_sectors(device, root, low, total, marks, waiting) {
-        Ok(tally) => Ok(Surveyed {
-            volume: Volume::unopened(total, root, allocation),
-            files: tally.files,
-            directories: tally.directories,
-        }),
-        Err(finding) => Err(refused_for(finding)),
+    if let Err(finding) = check_sectors(device, root, low, total, marks, waiting) {
+        return Err(refused_for(finding));
     }
+    Ok(Volume::unopened(total, root, allocation))
 }

@@ -30,7 +30,11 @@ fn broken(
     bytes[offset] = byte;
     let image = FlatImage::new(bytes);
     let mut marks = [0u8; 64];
-    let mut waiting = [Waiting::UNUSED; 64];
+    let mut waiting = [Waiting {
+        lsn: 0,
+        parent: 0,
+        name: [0; 28],
+    }; 64];
     match survey(&image, 8, &mut marks, &mut waiting) {
         Err(
             VolumeFault::Broken {
@@ -50,7 +54,11 @@ fn broken(
 fn a_new_volume_passes(rt: HostRuntime) -> Result<(), Fail> {
     let image = FlatImage::new(new_image(&rt, rt.alloc())?);
     let mut marks = [7u8; 70];
-    let mut waiting = [Waiting::UNUSED; 64];
+    let mut waiting = [Waiting {
+        lsn: 0,
+        parent: 0,
+        name: [0; 28],
+    }; 64];
     let volume = survey(&image, 255, &mut marks, &mut waiting)?;
     assert_eq!(rt; volume.total(), 64);
     assert_eq!(rt; volume.root(), 2);
@@ -106,7 +114,11 @@ fn a_damaged_volume_is_refused(rt: HostRuntime) -> Result<(), Fail> {
 fn unlawful_arguments(rt: HostRuntime) -> Result<(), Fail> {
     let image = FlatImage::new(new_image(&rt, rt.alloc())?);
     let mut marks = [0u8; 64];
-    let mut waiting = [Waiting::UNUSED; 63];
+    let mut waiting = [Waiting {
+        lsn: 0,
+        parent: 0,
+        name: [0; 28],
+    }; 63];
     let Err(fault) = survey(&image, 256, &mut marks, &mut waiting) else {
         return Err(Fail::new("a survey passed"));
     };

@@ -2,18 +2,18 @@ use Rattle.std.proofs.Common.{◌≡◌, ⊎_elim, arith, rules}
 use Rattle.std.proofs.lemmas.Bool.{cases_eq}
 use Rattle.devices.proofs.inspection.read_header.Goals as goal
 
-pub returns-in-default-bytes : goal.returns-in-default-bytes
-returns-in-default-bytes c = let e = c.at-in-default-bytes.ensures in rw (e.0, e.1) (search rules)
+pub returns-in_default-bytes : goal.returns-in_default-bytes
+returns-in_default-bytes c = let e = c.at-in_default-bytes.ensures in rw (e.0, e.1) (search rules)
 
-pub returns-in-default-bytes-2 : goal.returns-in-default-bytes-2
-returns-in-default-bytes-2 c =
-    let e = c.at-in-default-bytes-2.ensures in
+pub returns-in_default-bytes-2 : goal.returns-in_default-bytes-2
+returns-in_default-bytes-2 c =
+    let e = c.at-in_default-bytes-2.ensures in
     rw (e.0, e.1)
     (search rules, search rules, search rules, search rules, search rules, omega arith, omega arith, search rules, λ k low high. let is : k ≡ 5 = omega arith in rw is c.in-0.is)
 
-pub returns-in-default-bytes-3 : goal.returns-in-default-bytes-3
-returns-in-default-bytes-3 c =
-    let e = c.at-in-default-bytes-3.ensures in
+pub returns-in_default-bytes-3 : goal.returns-in_default-bytes-3
+returns-in_default-bytes-3 c =
+    let e = c.at-in_default-bytes-3.ensures in
     rw (e.0, e.1) (
       search rules,
       search rules,

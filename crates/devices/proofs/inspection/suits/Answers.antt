@@ -18,7 +18,7 @@ returns-else-interleave-factor-eq0 c =
     let s = c.args.sectors in
     let last = c.loop-factor.factor in
     let low : 1 ≤ k = omega arith in
-    let here : k % last ≡ 0 → s % last ≡ 0 → ⊥ = λ x y. elim c.else-interleave-factor-eq0.branch [ one w ↦ w.if-sectors-factor-eq0.left y | other w ↦ w.if-interleave-factor-eq0.left x ] in (
+    let here : k % last ≡ 0 → s % last ≡ 0 → ⊥ = λ x y. elim c.else-interleave-factor-eq0.branch [ one w ↦ w.if-sectors-factor-eq0.false y | other w ↦ w.if-interleave-factor-eq0.false x ] in (
       λ t. (
         low,
         omega arith,

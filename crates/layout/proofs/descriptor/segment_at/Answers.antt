@@ -14,6 +14,6 @@ returns c =
     let len : c.nth.result.len ≡ number (16 + k * 5 + 3) 2 xs = ap (λ (s : Segment). s.len) (is ∙ segment_numbers xs k) in
     record {
       is = is;
-      low = omega (arith, start, number_lt (16 + k * 5) 3 xs (λ i. omega (arith, c.type-inv.descriptor i)));
-      short = omega (arith, len, number_lt (16 + k * 5 + 3) 2 xs (λ i. omega (arith, c.type-inv.descriptor i)));
+      low = omega (arith, start, number_lt (16 + k * 5) 3 xs (λ i. omega (arith, c.type_inv.descriptor i)));
+      short = omega (arith, len, number_lt (16 + k * 5 + 3) 2 xs (λ i. omega (arith, c.type_inv.descriptor i)));
     }

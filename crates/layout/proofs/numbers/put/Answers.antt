@@ -6,4 +6,4 @@ pub returns : goal.returns
 returns c =
     let at = c.args.at in
     let bs = c.args.part.now in
-    put_is at ((at + length bs) - at) c.args.bytes.now _ bs (omega arith) c.copy-from-slice.ensures.after
+    put_is at ((at + length bs) - at) c.args.bytes.now _ bs (omega arith) c.copy_from_slice.ensures.after

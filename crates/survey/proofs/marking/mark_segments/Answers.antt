@@ -3,9 +3,8 @@ use Rattle.std.proofs.lemmas.Bool.{cases_lt}
 use Rattle.layout.specs.Descriptor.{segment, upto, extent}
 use Rattle.layout.specs.declared.segment.Segment.{Segment}
 use Rattle.rules.specs.Nodes.{times}
-use Rattle.descriptors.proofs.Extents.{rest, rest_end}
-use Rattle.rules.proofs.Runs.{upto_has}
-use Rattle.survey.proofs.Within.{entry_has, split_times}
+use Rattle.survey.proofs.Extents.{rest, rest_end}
+use Rattle.survey.proofs.Within.{entry_has, upto_has, split_times}
 use Rattle.survey.proofs.marking.mark_segments.Goals as goal
 
 pub mark-run-requires : goal.mark-run-requires

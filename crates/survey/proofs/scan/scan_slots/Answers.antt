@@ -7,19 +7,14 @@ use Rattle.rules.specs.Nodes.{times, is_directory}
 use Rattle.rules.specs.Rules.{SegmentsWithin, SizeRight, slot_bytes_at, slot_count}
 use Rattle.rules.specs.declared.rule.Rule.{Rule}
 use Rattle.rules.specs.declared.rule.Rule.TheVariants as rule
-use Rattle.content.specs.Slots.{SlotsAt}
 use Rattle.survey.specs.Scanning.{lsns, ScanBreaks, ScanAnswer}
 use Rattle.survey.specs.Taking.{Breaks, SlotTaken}
 use Rattle.survey.specs.declared.finding.Finding.{Finding}
 use Rattle.survey.specs.declared.finding.Finding.TheVariants.{Broken, Unread}
 use Rattle.survey.specs.declared.waiting.Waiting.{Waiting}
-use Rattle.survey.proofs.Chains.{chain_starts}
 use Rattle.survey.proofs.SlotReads.{wide_of, slot_is, count_is, unread}
-use Rattle.content.proofs.SlotsRead.{next_slot}
 use Rattle.survey.proofs.Scans.{Scan, scan_starts, scan-passes, scan-takes, scan-room, breaks_b, breaks_e, breaks_g, scan_ends}
-use Rattle.descriptors.proofs.Blocks.{Wide}
 use Rattle.survey.proofs.scan.scan_slots.Goals as goal
-use Rattle.survey.proofs.scan.scan_slots.Goals.{then-k-eq0+in-Ok, else-k-eq0}
 
 module _ (d : Meaning) (l low high base n : ℕ) (m₀ : List ℕ) (ws₀ : List Waiting) (dir : is_directory (d.sector l) ≡ true) (total : slot_count d l ≡ n)
     (k count : ℕ) (m : List ℕ) (ws : List Waiting) (two : 2 ≤ k) (lt : k < n) (s : Scan d l low high base m₀ ws₀ k count m ws) where
@@ -45,29 +40,18 @@ module _ (d : Meaning) (l low high base n : ℕ) (m₀ : List ℕ) (ws₀ : List
       (scan-takes d l low high base m₀ ws₀ k count m ws two s m' ws' (scan-room d l low high base m₀ ws₀ k count m ws two s listed low_ones fits _ t.1.below t.1.unmarked) long t.1)
 
 pub loop-k-init : goal.loop-k-init
-loop-k-init g c = (scan_starts _ _ _ _ _ _ _ c.requires.some c.requires.small, chain_starts _ _, refl, inr c.requires.begins)
+loop-k-init g c = scan_starts _ _ _ _ _ _ _ c.requires.some c.requires.small
 
 pub returns-in-Err : goal.returns-in-Err
-returns-in-Err g c = unread (g.D.Device.meaning c.args.device.now) c.args.descriptor.now c.args.lsn (c.loop-k.k / 8) c.in-Err.fault c.requires.is c.in-Err.ensures
+returns-in-Err g c = unread (g.D.Device.meaning c.args.device.now) c.args.descriptor.now c.args.lsn c.loop-k.k c.in-Err.fault c.requires.is c.in-Err.ensures
 
 pub take-slot-requires : goal.take-slot-requires
 take-slot-requires g c =
     record {
       marked = omega (arith, c.requires.marked, c.loop-k.auto.marks);
-      some = c.loop-k.invariant.0.most;
-      buckets = c.loop-k.invariant.2;
-      chained = c.loop-k.invariant.1;
-      room = scan-room _ _ _ _ _ _ _ c.loop-k.k c.loop-k.count c.loop-k.marks c.loop-k.waiting c.loop-k.auto.k c.loop-k.invariant.0 c.requires.listed c.requires.inside (omega (arith, c.requires.room, c.loop-k.auto.waiting));
+      some = c.loop-k.invariant.most;
+      room = scan-room _ _ _ _ _ _ _ c.loop-k.k c.loop-k.count c.loop-k.marks c.loop-k.waiting c.loop-k.auto.k c.loop-k.invariant c.requires.listed c.requires.inside (omega (arith, c.requires.room, c.loop-k.auto.waiting));
     }
-
--- the sector that a slot lies in: the one that was read last, or the next
-in_sector : (d : Meaning) (s : List ℕ) (k : ℕ) (before sec : List ℕ) → (k % 8 ≡ 0) ⊎ SlotsAt d s (k / 8) before → (k % 8 ≡ 0 → ⊥) → sec ≡ before → SlotsAt d s (k / 8) sec
-in_sector d s k before sec (inl zero) ne e = absurd (ne zero)
-in_sector d s k before sec (inr at) ne e = subst (SlotsAt d s (k / 8)) (sym e) at
-
--- the slot that was taken is the directory's
-is_here : (d : Meaning) (s sec xs : List ℕ) (l k n : ℕ) → s ≡ d.sector l → n ≡ size s → k < n / 32 → Wide d.sector 256 (extent (segments s)) → SlotsAt d s (k / 8) sec → xs ≡ record_at 32 (k % 8) sec → xs ≡ slot_bytes_at d l k
-is_here d s sec xs l k n is e lt wide at read = read ∙ slot_is d s sec l k is (omega (arith, e, lt)) wide at
 
 pub returns-in-Err-take-slot : goal.returns-in-Err-take-slot
 returns-in-Err-take-slot g c =
@@ -75,18 +59,14 @@ returns-in-Err-take-slot g c =
     let s = c.args.descriptor.now in
     let l = c.args.lsn in
     let k = c.loop-k.k in
-    let sec = c.if-k-eq0.sector in
     let wide = wide_of d s c.args.low c.args.high c.requires.whole c.requires.within c.requires.there in
+    let read = c.in-Ok.ensures in
     let n = c.number-at-slots.ensures.is in
-    let at : SlotsAt d s (k / 8) sec = elim c.if-k-eq0.branch [
-      | then-k-eq0+in-Ok w ↦ subst (SlotsAt d s (k / 8)) (sym w.sector-is) w.in-Ok.ensures
-      | else-k-eq0 w ↦ in_sector d s k c.loop-k.sector sec c.loop-k.invariant.3 w.if-k-eq0.false w.sector-is
-    ] in
-    let is = is_here d s sec c.slot-in-slot.result l k c.number-at-slots.result c.requires.is n c.loop-k-test.true wide at c.slot-in-slot.ensures in
+    let is = slot_is d s c.in-Ok.slot l k read.0 c.requires.is (omega (arith, n)) wide read.1 read.3 in
     let total = count_is d s l c.number-at-slots.result c.requires.is wide c.requires.size.held n in
-    finds d l c.args.low c.args.high c.args.base (c.number-at-slots.result / 32) c.args.marks.now c.args.waiting.now (rw c.requires.is at c.requires.directory) total k c.loop-k.count c.loop-k.marks c.loop-k.waiting c.loop-k.auto.k c.loop-k-test.true c.loop-k.invariant.0
+    finds d l c.args.low c.args.high c.args.base (c.number-at-slots.result / 32) c.args.marks.now c.args.waiting.now (rw c.requires.is at c.requires.directory) total k c.loop-k.count c.loop-k.marks c.loop-k.waiting c.loop-k.auto.k c.loop-k-test.true c.loop-k.invariant
     c.take-slot.new.marks c.take-slot.new.waiting c.in-Err-take-slot.finding
-    (subst (λ (xs : List ℕ). SlotTaken xs l c.args.low c.args.high c.args.base c.loop-k.count c.loop-k.marks c.take-slot.new.marks c.loop-k.waiting c.take-slot.new.waiting (Err c.in-Err-take-slot.finding)) is c.in-Err-take-slot.ensures.taken)
+    (subst (λ (xs : List ℕ). SlotTaken xs l c.args.low c.args.high c.args.base c.loop-k.count c.loop-k.marks c.take-slot.new.marks c.loop-k.waiting c.take-slot.new.waiting (Err c.in-Err-take-slot.finding)) is c.in-Err-take-slot.ensures)
 
 pub loop-k-preserved : goal.loop-k-preserved
 loop-k-preserved g c =
@@ -94,19 +74,14 @@ loop-k-preserved g c =
     let s = c.args.descriptor.now in
     let l = c.args.lsn in
     let k = c.loop-k.k in
-    let sec = c.if-k-eq0.sector in
     let wide = wide_of d s c.args.low c.args.high c.requires.whole c.requires.within c.requires.there in
+    let read = c.in-Ok.ensures in
     let n = c.number-at-slots.ensures.is in
-    let at : SlotsAt d s (k / 8) sec = elim c.if-k-eq0.branch [
-      | then-k-eq0+in-Ok w ↦ subst (SlotsAt d s (k / 8)) (sym w.sector-is) w.in-Ok.ensures
-      | else-k-eq0 w ↦ in_sector d s k c.loop-k.sector sec c.loop-k.invariant.3 w.if-k-eq0.false w.sector-is
-    ] in
-    let is = is_here d s sec c.slot-in-slot.result l k c.number-at-slots.result c.requires.is n c.loop-k-test.true wide at c.slot-in-slot.ensures in
+    let is = slot_is d s c.in-Ok.slot l k read.0 c.requires.is (omega (arith, n)) wide read.1 read.3 in
     let total = count_is d s l c.number-at-slots.result c.requires.is wide c.requires.size.held n in
-    let on = steps d l c.args.low c.args.high c.args.base (c.number-at-slots.result / 32) c.args.marks.now c.args.waiting.now (rw c.requires.is at c.requires.directory) total k c.loop-k.count c.loop-k.marks c.loop-k.waiting c.loop-k.auto.k c.loop-k-test.true c.loop-k.invariant.0
+    steps d l c.args.low c.args.high c.args.base (c.number-at-slots.result / 32) c.args.marks.now c.args.waiting.now (rw c.requires.is at c.requires.directory) total k c.loop-k.count c.loop-k.marks c.loop-k.waiting c.loop-k.auto.k c.loop-k-test.true c.loop-k.invariant
     c.take-slot.new.marks c.take-slot.new.waiting c.in-Ok-take-slot.n c.requires.listed c.requires.inside (omega (arith, c.requires.room, c.loop-k.auto.waiting)) (omega (arith, c.requires.marked, c.loop-k.auto.marks))
-    (subst (λ (xs : List ℕ). SlotTaken xs l c.args.low c.args.high c.args.base c.loop-k.count c.loop-k.marks c.take-slot.new.marks c.loop-k.waiting c.take-slot.new.waiting (Ok c.in-Ok-take-slot.n)) is c.in-Ok-take-slot.ensures.taken) in
-    (on, c.in-Ok-take-slot.ensures.chained, omega (arith, c.take-slot.auto.heads, c.loop-k.invariant.2), next_slot d s sec k at)
+    (subst (λ (xs : List ℕ). SlotTaken xs l c.args.low c.args.high c.args.base c.loop-k.count c.loop-k.marks c.take-slot.new.marks c.loop-k.waiting c.take-slot.new.waiting (Ok c.in-Ok-take-slot.n)) is c.in-Ok-take-slot.ensures)
 
 pub returns : goal.returns
 returns g c =
@@ -116,9 +91,7 @@ returns g c =
     let n = c.number-at-slots.ensures.is in
     let total = count_is d s c.args.lsn c.number-at-slots.result c.requires.is wide c.requires.size.held n in
     let two : 64 ≤ size s = c.requires.size.two c.requires.directory in
-    let all : c.loop-k.k ≡ c.number-at-slots.result / 32 = omega (arith, n) in (
-      scan_ends d c.args.lsn c.args.low c.args.high c.args.base (c.number-at-slots.result / 32) c.loop-k.count c.args.marks.now c.loop-k.marks c.args.waiting.now c.loop-k.waiting
-          (rw c.requires.is at c.requires.directory) total (omega (arith, n))
-          (subst (λ (k : ℕ). Scan d c.args.lsn c.args.low c.args.high c.args.base c.args.marks.now c.args.waiting.now k c.loop-k.count c.loop-k.marks c.loop-k.waiting) all c.loop-k.invariant.0),
-      refl,
-    )
+    let all : c.loop-k.k ≡ c.number-at-slots.result / 32 = omega (arith, n) in
+    scan_ends d c.args.lsn c.args.low c.args.high c.args.base (c.number-at-slots.result / 32) c.loop-k.count c.args.marks.now c.loop-k.marks c.args.waiting.now c.loop-k.waiting
+    (rw c.requires.is at c.requires.directory) total (omega (arith, n))
+    (subst (λ (k : ℕ). Scan d c.args.lsn c.args.low c.args.high c.args.base c.args.marks.now c.args.waiting.now k c.loop-k.count c.loop-k.marks c.loop-k.waiting) all c.loop-k.invariant)

@@ -1,12 +1,7 @@
-use Rattle.std.proofs.Common.{◌≡◌, ◌/◌, ◌%◌, ◌⊎◌, length}
-use Rattle.survey.specs.Names.{Chained}
-use Rattle.content.specs.Slots.{SlotsAt}
+use Rattle.std.proofs.Common.{◌≤◌}
 use Rattle.survey.proofs.Scans.{Scan}
 use Rattle.survey.proofs.scan.scan_slots.Given as goal
 
 abbrev pub invariant-loop-k : goal.invariant-loop-k
 invariant-loop-k g l =
     Scan (g.D.Device.meaning l.device) l.lsn l.low l.high l.base l.initial.marks l.initial.waiting l.k l.count l.marks l.waiting
-    × Chained l.heads l.waiting l.base l.count
-    × (length l.heads ≡ 1021)
-    × ((l.k % 8 ≡ 0) ⊎ SlotsAt (g.D.Device.meaning l.device) l.descriptor (l.k / 8) l.sector)

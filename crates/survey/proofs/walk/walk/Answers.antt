@@ -1,18 +1,16 @@
-use Rattle.std.proofs.Common.{◌≡◌, ℕ, ◌+◌, ◌-◌, ◌<◌, ◌≤◌, Bool, cond, List, length, get_or, set, replicate, Ok, sym, refl, ap, ◌∙◌, subst, ap₂, arith, length-set, get_or-set_same}
+use Rattle.std.proofs.Common.{◌≡◌, ℕ, ◌+◌, ◌-◌, ◌<◌, ◌≤◌, List, length, get_or, set, replicate, Ok, sym, refl, ap, ◌∙◌, subst, ap₂, arith, length-set, get_or-set_same}
 use Rattle.devices.specs.Meaning.{Meaning}
 use Rattle.rules.specs.Rules.{sectors_of, map_of, root_at, Inside}
 use Rattle.rules.specs.Walking.{system, hit}
 use Rattle.survey.specs.Names.{nobody}
 use Rattle.survey.specs.Walks.{WalkAnswer}
-use Rattle.survey.specs.declared.waiting.Tally.{Tally}
 use Rattle.survey.specs.declared.waiting.Waiting.{Waiting}
 use Rattle.survey.proofs.Goings.{Going, going_starts, going_ends, going_done, turn_listed, turn_inside, turn_small, turn_on, turn_finds}
 use Rattle.survey.proofs.walk.walk.Goals as goal
-use Rattle.survey.proofs.walk.walk.Goals.{then_next, else-next}
 
 -- the root, as it waits first
 abbrev first : ℕ → Waiting
-first root = record { lsn = root; parent = root; name = replicate 28 0; before = 0 }
+first root = record { lsn = root; parent = root; name = replicate 28 0 }
 
 pub loop-turn-init : goal.loop-turn-init
 loop-turn-init g c =
@@ -30,40 +28,11 @@ loop-turn-init g c =
 
 pub returns-in-Err : goal.returns-in-Err
 returns-in-Err g c =
-    turn_finds (g.D.Device.meaning c.args.device.now) c.prepare.new.marks c.loop-turn.marks c.loop-turn.waiting c.loop-turn.turn c.loop-turn.count c.loop-turn.files c.loop-turn.directories c.args.low c.args.high c.requires.map c.requires.total c.if-count-eq0.false c.loop-turn.invariant _ c.requires.there c.args.marks.now c.visit.new.marks c.visit.new.waiting c.in-Err.finding c.in-Err.ensures
-
--- one turn: what the visit left, and one more file or directory
-turned : (d : Meaning) (m₀ m : List ℕ) (ws : List Waiting) (turn count files directories files' directories' : ℕ) (dir : Bool)
-    → Going d m₀ m ws turn count (files + cond {A = ℕ} dir 0 1) (directories + cond {A = ℕ} dir 1 0)
-    → files' ≡ files + cond {A = ℕ} dir 0 1 → directories' ≡ directories + cond {A = ℕ} dir 1 0 → Going d m₀ m ws turn count files' directories'
-turned d m₀ m ws turn count files directories files' directories' dir s e e' =
-    subst (λ (n : ℕ). Going d m₀ m ws turn count n directories') (sym e) (subst (λ (n : ℕ). Going d m₀ m ws turn count (files + cond {A = ℕ} dir 0 1) n) (sym e') s)
+    turn_finds (g.D.Device.meaning c.args.device.now) c.prepare.new.marks c.loop-turn.marks c.loop-turn.waiting c.loop-turn.turn c.loop-turn.count c.args.low c.args.high c.requires.map c.requires.total c.if-count-eq0.false c.loop-turn.invariant _ c.requires.there c.args.marks.now c.visit.new.marks c.visit.new.waiting c.in-Err.finding c.in-Err.ensures
 
 pub loop-turn-preserved : goal.loop-turn-preserved
 loop-turn-preserved g c =
-    let d = g.D.Device.meaning c.args.device.now in
-    let m₀ = c.prepare.new.marks in
-    let next = c.in-Ok.next in
-    let files = c.loop-turn.files in
-    let directories = c.loop-turn.directories in
-    let on = turn_on d m₀ c.loop-turn.marks c.loop-turn.waiting c.loop-turn.turn c.loop-turn.count files directories c.args.low c.args.high c.requires.map c.requires.total c.if-count-eq0.false c.loop-turn.invariant _
-    next.waiting c.visit.new.marks c.visit.new.waiting next.directory c.in-Ok.ensures.0 c.in-Ok.ensures.1 in
-    elim c.if-next.branch [
-      | then_next w ↦
-          turned d m₀ c.visit.new.marks c.visit.new.waiting (c.loop-turn.turn + 1) next.waiting files directories c.if-next.files c.if-next.directories next.directory on
-          (omega (arith, w.files-is, ap (λ (b : Bool). cond {A = ℕ} b 0 1) w.if-next.true))
-          (omega (arith, w.directories-is, ap (λ (b : Bool). cond {A = ℕ} b 1 0) w.if-next.true))
-      | else-next w ↦
-          turned d m₀ c.visit.new.marks c.visit.new.waiting (c.loop-turn.turn + 1) next.waiting files directories c.if-next.files c.if-next.directories next.directory on
-          (omega (arith, w.files-is, ap (λ (b : Bool). cond {A = ℕ} b 0 1) w.if-next.false))
-          (omega (arith, w.directories-is, ap (λ (b : Bool). cond {A = ℕ} b 1 0) w.if-next.false))
-    ]
-
-pub overflow-add-directories : goal.overflow-add-directories
-overflow-add-directories g c = omega (arith, c.loop-turn.invariant.each, c.requires.many, c.loop-turn-test.true)
-
-pub overflow-add-files : goal.overflow-add-files
-overflow-add-files g c = omega (arith, c.loop-turn.invariant.each, c.requires.many, c.loop-turn-test.true)
+    turn_on (g.D.Device.meaning c.args.device.now) c.prepare.new.marks c.loop-turn.marks c.loop-turn.waiting c.loop-turn.turn c.loop-turn.count c.args.low c.args.high c.requires.map c.requires.total c.if-count-eq0.false c.loop-turn.invariant _ c.in-Ok.n c.visit.new.marks c.visit.new.waiting c.in-Ok.ensures
 
 pub visit-requires : goal.visit-requires
 visit-requires g c =
@@ -78,26 +47,26 @@ visit-requires g c =
       room = omega (arith, c.requires.room, c.loop-turn.auto.waiting, length-set c.args.waiting.now 0 (first c.args.root));
       marked = omega (arith, c.requires.marked, c.loop-turn.auto.marks);
       some = omega (arith, c.loop-turn.invariant.most);
-      small = turn_small d m₀ m ws c.loop-turn.turn c.loop-turn.count c.loop-turn.files c.loop-turn.directories c.args.low c.args.high c.requires.map c.requires.total c.if-count-eq0.false c.loop-turn.invariant nobody;
-      listed = turn_listed d m₀ m ws c.loop-turn.turn c.loop-turn.count c.loop-turn.files c.loop-turn.directories c.args.low c.args.high c.requires.map c.requires.total c.if-count-eq0.false c.loop-turn.invariant nobody;
-      inside = turn_inside d m₀ m ws c.loop-turn.turn c.loop-turn.count c.loop-turn.files c.loop-turn.directories c.args.low c.args.high c.requires.map c.requires.total c.if-count-eq0.false c.loop-turn.invariant nobody;
+      small = turn_small d m₀ m ws c.loop-turn.turn c.loop-turn.count c.args.low c.args.high c.requires.map c.requires.total c.if-count-eq0.false c.loop-turn.invariant nobody;
+      listed = turn_listed d m₀ m ws c.loop-turn.turn c.loop-turn.count c.args.low c.args.high c.requires.map c.requires.total c.if-count-eq0.false c.loop-turn.invariant nobody;
+      inside = turn_inside d m₀ m ws c.loop-turn.turn c.loop-turn.count c.args.low c.args.high c.requires.map c.requires.total c.if-count-eq0.false c.loop-turn.invariant nobody;
     }
 
 -- the end of a walk, from the marks that the caller had
-ended : (d : Meaning) (mₑ m₀ m : List ℕ) (ws : List Waiting) (turn count : ℕ) (t : Tally) → ((k : ℕ) → sectors_of d ≤ k → get_or m₀ k 0 ≡ get_or mₑ k 0) → count ≡ 0 → Going d m₀ m ws turn count t.files t.directories → WalkAnswer d mₑ m (Ok t)
-ended d mₑ m₀ m ws turn count t later none s =
-    let e = going_ends d m₀ m ws turn t (subst (λ (n : ℕ). Going d m₀ m ws turn n t.files t.directories) none s) in
-    record { walked = e.walked; later = λ k le. e.later k le ∙ later k le; census = e.census }
+ended : (d : Meaning) (mₑ m₀ m : List ℕ) (ws : List Waiting) (turn count : ℕ) → Inside d (root_at d) → ((k : ℕ) → sectors_of d ≤ k → get_or m₀ k 0 ≡ get_or mₑ k 0) → count ≡ 0 → Going d m₀ m ws turn count → WalkAnswer d mₑ m (Ok tt)
+ended d mₑ m₀ m ws turn count in-volume later none s =
+    let e = going_ends d m₀ m ws turn in-volume (subst (λ (n : ℕ). Going d m₀ m ws turn n) none s) in
+    (e.0, λ k le. e.1 k le ∙ later k le)
 
 pub returns-then-count-eq0 : goal.returns-then-count-eq0
 returns-then-count-eq0 g c =
-    ended (g.D.Device.meaning c.args.device.now) c.args.marks.now c.prepare.new.marks c.loop-turn.marks c.loop-turn.waiting c.loop-turn.turn c.loop-turn.count _
+    ended (g.D.Device.meaning c.args.device.now) c.args.marks.now c.prepare.new.marks c.loop-turn.marks c.loop-turn.waiting c.loop-turn.turn c.loop-turn.count c.requires.inside
     (λ k le. c.prepare.ensures.later k (omega (arith, c.requires.total))) c.if-count-eq0.true c.loop-turn.invariant
 
 pub returns : goal.returns
 returns g c =
     let d = g.D.Device.meaning c.args.device.now in
-    ended d c.args.marks.now c.prepare.new.marks c.loop-turn.marks c.loop-turn.waiting c.loop-turn.turn c.loop-turn.count _
+    ended d c.args.marks.now c.prepare.new.marks c.loop-turn.marks c.loop-turn.waiting c.loop-turn.turn c.loop-turn.count c.requires.inside
     (λ k le. c.prepare.ensures.later k (omega (arith, c.requires.total)))
-    (going_done d c.prepare.new.marks c.loop-turn.marks c.loop-turn.waiting c.loop-turn.turn c.loop-turn.count c.loop-turn.files c.loop-turn.directories (omega (arith, c.requires.total)) c.loop-turn.invariant)
+    (going_done d c.prepare.new.marks c.loop-turn.marks c.loop-turn.waiting c.loop-turn.turn c.loop-turn.count (omega (arith, c.requires.total)) c.loop-turn.invariant)
     c.loop-turn.invariant

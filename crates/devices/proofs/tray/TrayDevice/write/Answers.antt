@@ -2,35 +2,32 @@ use Rattle.std.proofs.Common.{◌≡◌, [], ◌∷◌, length, refl, ap, ◌∙
 use Rattle.devices.proofs.Written.{shape_kept, spare_kept, length_kept, states_kept, bad_kept, others_kept, sector_put, head_kept}
 use Rattle.devices.proofs.tray.TrayDevice.write.Goals as goal
 
-pub invariant-of-self : goal.invariant-of-self
-invariant-of-self c =
+pub invariant_of-self : goal.invariant_of-self
+invariant_of-self c =
     let t = c.args.self.now in
-    let s = c.as-mut-slice.result.now in
-    let ys = c.copy-from-slice.new.self in
+    let s = c.as_mut_slice.result.now in
+    let ys = c.copy_from_slice.new.self in
     let l = c.args.lsn in
-    let at = c.in-ok-at.at in
-    let h = c.in-ok-at.ensures in
-    let same = c.as-mut-slice.ensures.value in
-    let len : length ys ≡ 256 = search rules in (
-      λ p. shape_kept t s ys l at h.0.1 h.1 h.2 same len p,
-      (
-        λ p. spare_kept t s ys l at h.0.1 h.1 h.2 same len p,
-        (
-          λ p. length_kept t s ys l at h.0.1 h.1 h.2 same len p,
-          (λ k lt. states_kept t s ys l at h.0.1 h.1 h.2 same len k lt, tt),
-        ),
-      ),
-    )
+    let at = c.in_ok-at.at in
+    let h = c.in_ok-at.ensures in
+    let same = c.as_mut_slice.ensures.value in
+    let len : length ys ≡ 256 = search rules in
+    record {
+      shape = λ p. shape_kept t s ys l at h.0.1 h.1 h.2 same len p;
+      spare = λ p. spare_kept t s ys l at h.0.1 h.1 h.2 same len p;
+      size = λ p. length_kept t s ys l at h.0.1 h.1 h.2 same len p;
+      states = λ k lt. states_kept t s ys l at h.0.1 h.1 h.2 same len k lt;
+    }
 
 pub returns : goal.returns
 returns c =
     let t = c.args.self.now in
-    let s = c.as-mut-slice.result.now in
-    let ys = c.copy-from-slice.new.self in
+    let s = c.as_mut_slice.result.now in
+    let ys = c.copy_from_slice.new.self in
     let l = c.args.lsn in
-    let at = c.in-ok-at.at in
-    let h = c.in-ok-at.ensures in
-    let same = c.as-mut-slice.ensures.value in
+    let at = c.in_ok-at.at in
+    let h = c.in_ok-at.ensures in
+    let same = c.as_mut_slice.ensures.value in
     let len : length ys ≡ 256 = search rules in
     record {
       done = (
@@ -40,7 +37,7 @@ returns c =
           λ k lt. bad_kept t s ys l at h.0.1 h.1 h.2 same len k lt,
           λ k lt ne. others_kept t s ys l at h.0.1 h.1 h.2 same len k ne,
         ),
-        sector_put t s ys l at h.0.1 h.1 h.2 same len ∙ c.copy-from-slice.ensures.after,
+        sector_put t s ys l at h.0.1 h.1 h.2 same len ∙ c.copy_from_slice.ensures.after,
       );
       beside = ap (λ x. (x ∷ []) ∷ []) (head_kept t s ys l at h.0.1 h.1 h.2 same len);
     }

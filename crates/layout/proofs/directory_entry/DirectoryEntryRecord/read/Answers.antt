@@ -11,4 +11,4 @@ returns c =
     let a = c.from.ensures ∙ ap (λ n. get_or xs (n - 3) 0) c.requires in
     let b = c.from-2.ensures ∙ ap (λ n. get_or xs (n - 2) 0) c.requires in
     let d = c.from-3.ensures ∙ ap (λ n. get_or xs (n - 1) 0) c.requires in
-    slot_is _ _ _ _ c.copy-from-slice.ensures.after (omega arith)
+    slot_is _ _ _ _ c.copy_from_slice.ensures.after (omega arith)
