@@ -1,5 +1,7 @@
 // The bytes of a file: read and written over the sectors of its segments, on every device.
 
+#![tactic(auto)]
+
 pub mod content_laws;
 pub mod parts;
 pub mod read_bytes;

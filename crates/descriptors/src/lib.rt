@@ -1,5 +1,7 @@
 // Descriptors: their fields, the segment list of a file, and the sectors that it names.
 
+#![tactic(auto)]
+
 pub mod fields;
 pub mod heading;
 pub mod list_cuts;

@@ -1,5 +1,7 @@
 // The parts of a survey: what it checks of a descriptor, of a slot and of the map, and the marks it sets.
 
+#![tactic(auto)]
+
 pub mod descriptor_checks;
 pub mod dots;
 pub mod finding;

@@ -13,25 +13,25 @@ use Rattle.content.proofs.write_bytes.write_at.Goals as goal
 pub loop-done-init : goal.loop-done-init
 loop-done-init g c = (omega arith, write_none (g.D.Device.meaning c.args.device.now) (sectors c.args.descriptor.now) c.args.position, refl)
 
-pub overflow-add-at : goal.overflow-add-at
-overflow-add-at g c = omega (arith, held_few c.args.descriptor.now c.fits-descriptor, c.requires)
+pub overflow_add-at : goal.overflow_add-at
+overflow_add-at g c = omega (arith, held_few c.args.descriptor.now c.fits-descriptor, c.requires)
 
 pub unreachable-requires : goal.unreachable-requires
 unreachable-requires g c =
-    omega (arith, nth-none (sectors c.args.descriptor.now) ((c.args.position + c.loop-done.done) / 256) c.in-default.ensures)
+    omega (arith, nth-none (sectors c.args.descriptor.now) ((c.args.position + c.loop-done.done) / 256) c.in_default.ensures)
 
-pub returns-in-err-write-part : goal.returns-in-err-write-part
-returns-in-err-write-part g c =
-    let r = err_from_is_err_and c.from-residual.result c.from-residual.ensures.1 in
+pub returns-in_err-write_part : goal.returns-in_err-write_part
+returns-in_err-write_part g c =
+    let r = err_from_is_err_and c.from_residual.result c.from_residual.ensures.1 in
     let m₀ = g.D.Device.meaning c.args.device.now in
     let m = g.D.Device.meaning c.loop-done.device in
-    let m' = g.D.Device.meaning c.write-part.new.device in
+    let m' = g.D.Device.meaning c.write_part.new.device in
     let e = sectors c.args.descriptor.now in
     let p = c.args.position in
     let d = c.loop-done.done in
-    let f = c.in-err-write-part.field-0.0 in
+    let f = c.in_err-write_part.field-0.0 in
     let w = c.loop-done.invariant.1 in
-    let no = c.in-err-write-part.ensures in
+    let no = c.in_err-write_part.ensures in
     let some = nth_some e ((p + d) / 256) c.in-Some.lsn (sym c.in-Some.ensures) in
     rw (r.1, r.2)
     (record {
@@ -48,12 +48,12 @@ pub loop-done-preserved : goal.loop-done-preserved
 loop-done-preserved g c =
     let m₀ = g.D.Device.meaning c.args.device.now in
     let m = g.D.Device.meaning c.loop-done.device in
-    let m' = g.D.Device.meaning c.write-part.new.device in
+    let m' = g.D.Device.meaning c.write_part.new.device in
     let e = sectors c.args.descriptor.now in
     let p = c.args.position in
     let d = c.loop-done.done in
     let some = nth_some e ((p + d) / 256) c.in-Some.lsn (sym c.in-Some.ensures) in
-    let yes = c.in-ok-write-part.ensures in (
+    let yes = c.in_ok-write_part.ensures in (
       omega arith,
       write-turn m₀ m m' e c.args.bytes.now p d c.loop-done.invariant.1 c.min-end.result c.in-Some.lsn _
           some.0 some.1 (omega arith) (omega arith) (omega arith) refl yes.done,

@@ -11,9 +11,9 @@ returns c =
     let h = c.args.heading.now in
     let n = c.args.size in
     let l = c.args.segments.now in
-    let is : c.write-segments.new.descriptor ≡ new_descriptor h n (listed l) = cc in
+    let is : c.write_segments.new.descriptor ≡ new_descriptor h n (listed l) = cc in
     record {
       is = is;
       shows = ap shown is ∙ new_shows h n (listed l) h.byte h.word h.five h.three c.requires.fits (listed_few l) c.requires.storable;
-      tidy = c.write-segments.ensures.tidy;
+      tidy = c.write_segments.ensures.tidy;
     }

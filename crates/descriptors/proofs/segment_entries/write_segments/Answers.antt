@@ -15,22 +15,22 @@ use Rattle.descriptors.proofs.segment_entries.write_segments.Goals as goal
 pub loop-k-init : goal.loop-k-init
 loop-k-init c = sym (over_none 16 c.args.descriptor.now)
 
-pub put-segment-requires : goal.put-segment-requires
-put-segment-requires c =
+pub put_segment-requires : goal.put_segment-requires
+put_segment-requires c =
     let ss = listed c.args.segments.now in
     let fits = fits-at ss (listed_few c.args.segments.now) c.requires.storable c.loop-k.k in
     record {
       wide = omega arith;
       few = omega arith;
-      low = omega (arith, fits.0, ap (λ (s : Segment). s.start) c.entry-of.ensures);
-      short = omega (arith, fits.1, ap (λ (s : Segment). s.len) c.entry-of.ensures);
+      low = omega (arith, fits.0, ap (λ (s : Segment). s.start) c.entry_of.ensures);
+      short = omega (arith, fits.1, ap (λ (s : Segment). s.len) c.entry_of.ensures);
     }
 
 pub loop-k-preserved : goal.loop-k-preserved
 loop-k-preserved c =
-    c.put-segment.ensures
-    ∙ entry_more (listed c.args.segments.now) c.loop-k.k c.entry-of.result c.args.descriptor.now c.loop-k.descriptor
-    (listed_few c.args.segments.now) c.loop-k-test.true c.requires.wide c.entry-of.ensures c.loop-k.invariant
+    c.put_segment.ensures
+    ∙ entry_more (listed c.args.segments.now) c.loop-k.k c.entry_of.result c.args.descriptor.now c.loop-k.descriptor
+    (listed_few c.args.segments.now) c.loop-k-test.true c.requires.wide c.entry_of.ensures c.loop-k.invariant
 
 pub returns : goal.returns
 returns c =

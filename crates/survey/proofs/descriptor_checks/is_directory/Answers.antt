@@ -4,4 +4,4 @@ use Rattle.survey.proofs.descriptor_checks.is_directory.Goals as goal
 
 pub returns : goal.returns
 unfolding bit_at
-returns c = ap (λ n. eqb (n / 128 % 2) 1) c.number-at.ensures.is
+returns c = ap (λ n. eqb (n / 128 % 2) 1) c.number_at.ensures.is

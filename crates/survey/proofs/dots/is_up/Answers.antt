@@ -8,4 +8,4 @@ pub returns-then-slot-2 : goal.returns-then-slot-2
 returns-then-slot-2 c = slot_not_up c.args.slot.now c.args.lsn c.told-slot (λ both. c.if-slot-2.true both.1)
 
 pub returns : goal.returns
-returns c = slot_up c.args.slot.now c.args.lsn c.told-slot c.named-in.result c.if-slot.false c.if-slot-2.false c.named-in.ensures
+returns c = slot_up c.args.slot.now c.args.lsn c.told-slot c.named_in.result c.if-slot.false c.if-slot-2.false c.named_in.ensures

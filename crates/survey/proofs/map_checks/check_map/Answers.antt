@@ -27,6 +27,6 @@ loop-index-preserved g c =
       search rules,
       λ k lt tot. elim (cases_lt k (index * 2048)) [
         | inl low ↦ inv.1 k low tot
-        | inr high ↦ of_row d c.args.marks.now c.read.new.buf index k high lt read (c.in-default-check-row.ensures (k - index * 2048) (omega arith))
+        | inr high ↦ of_row d c.args.marks.now c.read.new.buf index k high lt read (c.in_default-check_row.ensures (k - index * 2048) (omega arith))
       ],
     )

@@ -45,28 +45,28 @@ loop-k-init g c = scan_starts _ _ _ _ _ _ _ c.requires.some c.requires.small
 pub returns-in-Err : goal.returns-in-Err
 returns-in-Err g c = unread (g.D.Device.meaning c.args.device.now) c.args.descriptor.now c.args.lsn c.loop-k.k c.in-Err.fault c.requires.is c.in-Err.ensures
 
-pub take-slot-requires : goal.take-slot-requires
-take-slot-requires g c =
+pub take_slot-requires : goal.take_slot-requires
+take_slot-requires g c =
     record {
       marked = omega (arith, c.requires.marked, c.loop-k.auto.marks);
       some = c.loop-k.invariant.most;
       room = scan-room _ _ _ _ _ _ _ c.loop-k.k c.loop-k.count c.loop-k.marks c.loop-k.waiting c.loop-k.auto.k c.loop-k.invariant c.requires.listed c.requires.inside (omega (arith, c.requires.room, c.loop-k.auto.waiting));
     }
 
-pub returns-in-Err-take-slot : goal.returns-in-Err-take-slot
-returns-in-Err-take-slot g c =
+pub returns-in-Err-take_slot : goal.returns-in-Err-take_slot
+returns-in-Err-take_slot g c =
     let d = g.D.Device.meaning c.args.device.now in
     let s = c.args.descriptor.now in
     let l = c.args.lsn in
     let k = c.loop-k.k in
     let wide = wide_of d s c.args.low c.args.high c.requires.whole c.requires.within c.requires.there in
     let read = c.in-Ok.ensures in
-    let n = c.number-at-slots.ensures.is in
+    let n = c.number_at-slots.ensures.is in
     let is = slot_is d s c.in-Ok.slot l k read.0 c.requires.is (omega (arith, n)) wide read.1 read.3 in
-    let total = count_is d s l c.number-at-slots.result c.requires.is wide c.requires.size.held n in
-    finds d l c.args.low c.args.high c.args.base (c.number-at-slots.result / 32) c.args.marks.now c.args.waiting.now (rw c.requires.is at c.requires.directory) total k c.loop-k.count c.loop-k.marks c.loop-k.waiting c.loop-k.auto.k c.loop-k-test.true c.loop-k.invariant
-    c.take-slot.new.marks c.take-slot.new.waiting c.in-Err-take-slot.finding
-    (subst (λ (xs : List ℕ). SlotTaken xs l c.args.low c.args.high c.args.base c.loop-k.count c.loop-k.marks c.take-slot.new.marks c.loop-k.waiting c.take-slot.new.waiting (Err c.in-Err-take-slot.finding)) is c.in-Err-take-slot.ensures)
+    let total = count_is d s l c.number_at-slots.result c.requires.is wide c.requires.size.held n in
+    finds d l c.args.low c.args.high c.args.base (c.number_at-slots.result / 32) c.args.marks.now c.args.waiting.now (rw c.requires.is at c.requires.directory) total k c.loop-k.count c.loop-k.marks c.loop-k.waiting c.loop-k.auto.k c.loop-k-test.true c.loop-k.invariant
+    c.take_slot.new.marks c.take_slot.new.waiting c.in-Err-take_slot.finding
+    (subst (λ (xs : List ℕ). SlotTaken xs l c.args.low c.args.high c.args.base c.loop-k.count c.loop-k.marks c.take_slot.new.marks c.loop-k.waiting c.take_slot.new.waiting (Err c.in-Err-take_slot.finding)) is c.in-Err-take_slot.ensures)
 
 pub loop-k-preserved : goal.loop-k-preserved
 loop-k-preserved g c =
@@ -76,22 +76,22 @@ loop-k-preserved g c =
     let k = c.loop-k.k in
     let wide = wide_of d s c.args.low c.args.high c.requires.whole c.requires.within c.requires.there in
     let read = c.in-Ok.ensures in
-    let n = c.number-at-slots.ensures.is in
+    let n = c.number_at-slots.ensures.is in
     let is = slot_is d s c.in-Ok.slot l k read.0 c.requires.is (omega (arith, n)) wide read.1 read.3 in
-    let total = count_is d s l c.number-at-slots.result c.requires.is wide c.requires.size.held n in
-    steps d l c.args.low c.args.high c.args.base (c.number-at-slots.result / 32) c.args.marks.now c.args.waiting.now (rw c.requires.is at c.requires.directory) total k c.loop-k.count c.loop-k.marks c.loop-k.waiting c.loop-k.auto.k c.loop-k-test.true c.loop-k.invariant
-    c.take-slot.new.marks c.take-slot.new.waiting c.in-Ok-take-slot.n c.requires.listed c.requires.inside (omega (arith, c.requires.room, c.loop-k.auto.waiting)) (omega (arith, c.requires.marked, c.loop-k.auto.marks))
-    (subst (λ (xs : List ℕ). SlotTaken xs l c.args.low c.args.high c.args.base c.loop-k.count c.loop-k.marks c.take-slot.new.marks c.loop-k.waiting c.take-slot.new.waiting (Ok c.in-Ok-take-slot.n)) is c.in-Ok-take-slot.ensures)
+    let total = count_is d s l c.number_at-slots.result c.requires.is wide c.requires.size.held n in
+    steps d l c.args.low c.args.high c.args.base (c.number_at-slots.result / 32) c.args.marks.now c.args.waiting.now (rw c.requires.is at c.requires.directory) total k c.loop-k.count c.loop-k.marks c.loop-k.waiting c.loop-k.auto.k c.loop-k-test.true c.loop-k.invariant
+    c.take_slot.new.marks c.take_slot.new.waiting c.in-Ok-take_slot.n c.requires.listed c.requires.inside (omega (arith, c.requires.room, c.loop-k.auto.waiting)) (omega (arith, c.requires.marked, c.loop-k.auto.marks))
+    (subst (λ (xs : List ℕ). SlotTaken xs l c.args.low c.args.high c.args.base c.loop-k.count c.loop-k.marks c.take_slot.new.marks c.loop-k.waiting c.take_slot.new.waiting (Ok c.in-Ok-take_slot.n)) is c.in-Ok-take_slot.ensures)
 
 pub returns : goal.returns
 returns g c =
     let d = g.D.Device.meaning c.args.device.now in
     let s = c.args.descriptor.now in
     let wide = wide_of d s c.args.low c.args.high c.requires.whole c.requires.within c.requires.there in
-    let n = c.number-at-slots.ensures.is in
-    let total = count_is d s c.args.lsn c.number-at-slots.result c.requires.is wide c.requires.size.held n in
+    let n = c.number_at-slots.ensures.is in
+    let total = count_is d s c.args.lsn c.number_at-slots.result c.requires.is wide c.requires.size.held n in
     let two : 64 ≤ size s = c.requires.size.two c.requires.directory in
-    let all : c.loop-k.k ≡ c.number-at-slots.result / 32 = omega (arith, n) in
-    scan_ends d c.args.lsn c.args.low c.args.high c.args.base (c.number-at-slots.result / 32) c.loop-k.count c.args.marks.now c.loop-k.marks c.args.waiting.now c.loop-k.waiting
+    let all : c.loop-k.k ≡ c.number_at-slots.result / 32 = omega (arith, n) in
+    scan_ends d c.args.lsn c.args.low c.args.high c.args.base (c.number_at-slots.result / 32) c.loop-k.count c.args.marks.now c.loop-k.marks c.args.waiting.now c.loop-k.waiting
     (rw c.requires.is at c.requires.directory) total (omega (arith, n))
     (subst (λ (k : ℕ). Scan d c.args.lsn c.args.low c.args.high c.args.base c.args.marks.now c.args.waiting.now k c.loop-k.count c.loop-k.marks c.loop-k.waiting) all c.loop-k.invariant)

@@ -9,9 +9,9 @@ returns-then-stored-i-ge128 c =
     let xs = c.args.stored.now in
     let n = c.loop-i.i in
     let s = c.loop-i.invariant in
-    let here = sym c.if-not-is-name-byte.ensures in
+    let here = sym c.if-not-is_name_byte.ensures in
     spelt_end xs n c.loop-i.proper c.if-letter-ne46.proper (omega (arith, c.requires)) s here c.if-stored-i-ge128.true
     (elim c.if-letter-ne46.branch [
-      | then-letter-ne46 w ↦ rw w.proper_is (n, omega arith, w.if-letter-ne46.true)
-      | else-letter-ne46 w ↦ rw w.proper_is (proper_more xs n c.loop-i.proper s.proper_is w.if-letter-ne46.false)
+      | then-letter-ne46 w ↦ rw w.proper-is (n, omega arith, w.if-letter-ne46.true)
+      | else-letter-ne46 w ↦ rw w.proper-is (proper_more xs n c.loop-i.proper s.proper_is w.if-letter-ne46.false)
     ])

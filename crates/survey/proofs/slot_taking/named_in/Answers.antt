@@ -3,4 +3,4 @@ use Rattle.survey.proofs.slot_taking.named_in.Goals as goal
 
 pub returns : goal.returns
 unfolding stored_slot
-returns c = c.number-at.ensures.is
+returns c = c.number_at.ensures.is

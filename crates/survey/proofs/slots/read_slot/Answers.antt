@@ -5,4 +5,4 @@ use Rattle.survey.proofs.slots.read_slot.Goals as goal
 
 pub unreachable-requires : goal.unreachable-requires
 unreachable-requires g c =
-    omega (arith, c.requires.held, nth-none (extent (segments c.args.descriptor.now)) (c.args.k / 8) c.in-default.ensures)
+    omega (arith, c.requires.held, nth-none (extent (segments c.args.descriptor.now)) (c.args.k / 8) c.in_default.ensures)

@@ -7,14 +7,14 @@ use Rattle.survey.proofs.SlotReads.{wide_of}
 use Rattle.survey.proofs.Visits.{visited}
 use Rattle.survey.proofs.visit.visit.Goals as goal
 
-pub check-dots-requires : goal.check-dots-requires
-check-dots-requires g c =
+pub check_dots-requires : goal.check_dots-requires
+check_dots-requires g c =
     let d = g.D.Device.meaning c.args.device.now in
     let s = c.read.new.buf in
-    let right = c.in-default-check-descriptor.ensures in
+    let right = c.in_default-check_descriptor.ensures in
     record {
-      is = c.in-default.ensures.1;
-      held = right.3.two (sym c.if-not-is-directory.ensures);
+      is = c.in_default.ensures.1;
+      held = right.3.two (sym c.if-not-is_directory.ensures);
       enough = right.3.held;
       wide = wide_of d s c.args.low c.args.high c.requires.whole right.2 c.requires.there;
     }
@@ -22,13 +22,13 @@ check-dots-requires g c =
 pub returns : goal.returns
 returns g c =
     let d = g.D.Device.meaning c.args.device.now in
-    let is = c.in-default.ensures.1 in
-    let right = c.in-default-check-descriptor.ensures in
-    visited d c.args.lsn c.args.parent c.args.low c.args.high c.args.base c.args.marks.now c.mark-segments.new.marks c.scan-slots.new.marks c.args.waiting.now c.scan-slots.new.waiting
-    (ap is_directory (sym is) ∙ sym c.if-not-is-directory.ensures)
+    let is = c.in_default.ensures.1 in
+    let right = c.in_default-check_descriptor.ensures in
+    visited d c.args.lsn c.args.parent c.args.low c.args.high c.args.base c.args.marks.now c.mark_segments.new.marks c.scan_slots.new.marks c.args.waiting.now c.scan_slots.new.waiting
+    (ap is_directory (sym is) ∙ sym c.if-not-is_directory.ensures)
     (subst Linked is right.0) (subst Tidy is right.1)
     (subst (λ (s : List ℕ). SegmentsWithin s c.args.low c.args.high) is right.2)
     (subst SizeRight is right.3)
-    c.in-default-check-dots.ensures
-    (subst (λ (s : List ℕ). Marked c.args.marks.now (extent (segments s)) c.mark-segments.new.marks) is c.in-default-mark-segments.ensures.0)
-    c.scan-slots.result c.scan-slots.ensures
+    c.in_default-check_dots.ensures
+    (subst (λ (s : List ℕ). Marked c.args.marks.now (extent (segments s)) c.mark_segments.new.marks) is c.in_default-mark_segments.ensures.0)
+    c.scan_slots.result c.scan_slots.ensures

@@ -7,8 +7,8 @@ use Rattle.descriptors.proofs.Cutting.{storable_at, part_step, past-step}
 use Rattle.descriptors.proofs.segment_list.SegmentList.behind.Goals as goal
 use Rattle.descriptors.proofs.segment_list.SegmentList.behind.Goals.{then-left-segment, else-left-segment}
 
-pub overflow-add-segment : goal.overflow-add-segment
-overflow-add-segment c =
+pub overflow_add-segment : goal.overflow_add-segment
+overflow_add-segment c =
     let s = storable_at (listed c.args.self.now) c.loop-k.k c.segment-segment.result (omega arith) c.segment-segment.ensures c.requires in
     omega (arith, s.short, s.low)
 
@@ -19,7 +19,7 @@ loop-k-preserved c =
     let done = listed c.loop-k.runs in
     let s = c.segment-segment.result in
     let left = c.loop-k.left in
-    let less : c.saturating-sub-left.result ≡ left - s.len = omega arith in
+    let less : c.saturating_sub-left.result ≡ left - s.len = omega arith in
     elim c.if-left-segment.branch [
       | then-left-segment w ↦
           let run : Segment = record { start = s.start + left; len = s.len - left } in

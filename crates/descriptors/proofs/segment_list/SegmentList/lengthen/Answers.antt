@@ -3,8 +3,8 @@ use Rattle.layout.specs.declared.segment.Segment.{Segment}
 use Rattle.descriptors.proofs.ListLaws.{listed_length, last_is, put_longer}
 use Rattle.descriptors.proofs.segment_list.SegmentList.lengthen.Goals as goal
 
-pub overflow-add-self : goal.overflow-add-self
-overflow-add-self c =
+pub overflow_add-self : goal.overflow_add-self
+overflow_add-self c =
     let self = c.args.self.now in
     let long = listed_length self.items self.count (omega (arith, self.few, self.long)) in
     let last = last_is self.items self.count (omega (arith, self.few, self.long)) (omega (arith, long, c.requires.some)) in

@@ -5,8 +5,8 @@ use Rattle.descriptors.specs.Lists.{listed}
 use Rattle.descriptors.proofs.Cutting.{held_step, storable_at}
 use Rattle.descriptors.proofs.segment_list.SegmentList.sectors.Goals as goal
 
-pub overflow-add-sum : goal.overflow-add-sum
-overflow-add-sum c =
+pub overflow_add-sum : goal.overflow_add-sum
+overflow_add-sum c =
     let s = storable_at (listed c.args.self.now) c.loop-k.k c.segment-sum.result (omega arith) c.segment-sum.ensures c.requires in
     omega (arith, s.short, c.loop-k.invariant.1, c.len-k-end.ensures.few)
 

@@ -2,12 +2,12 @@ use Rattle.std.proofs.Common.{◌≡◌, arith}
 use Rattle.paths.specs.declared.open_path.OpenPath.{OpenPath}
 use Rattle.paths.proofs.PathLaws.{path_none, past_none, past_some}
 use Rattle.paths.proofs.open_paths.OpenPaths.place_of.Goals as goal
-use Rattle.paths.proofs.open_paths.OpenPaths.place_of.Goals.{in-Some+else-path-number, in-default}
+use Rattle.paths.proofs.open_paths.OpenPaths.place_of.Goals.{in-Some+else-path-number, in_default}
 
 pub loop-k-preserved : goal.loop-k-preserved
 loop-k-preserved c = elim c.match-place.branch [
   | in-Some+else-path-number w ↦ past_some (λ (p : OpenPath). p.number ≡ c.args.number) _ _ c.loop-k.invariant w.in-Some.path w.in-Some.is w.if-path-number.false
-  | in-default w ↦ past_none (λ (p : OpenPath). p.number ≡ c.args.number) _ _ c.loop-k.invariant w.in-default.is
+  | in_default w ↦ past_none (λ (p : OpenPath). p.number ≡ c.args.number) _ _ c.loop-k.invariant w.in_default.is
 ]
 
 pub returns : goal.returns
