@@ -21,7 +21,7 @@ pub fn layer_name(layer: Layer) -> &'static str
 fn line_of(heap: Global, number: u8, place: usize, layer: &str) -> Result<String, AllocError>
     ensures { IfOk result (λ s. string_bytes s ≡ line_text number place layer.now) }
 {
-    format!(heap, "refused {number} {place} {layer}")
+    format!(in heap; "refused {number} {place} {layer}")
 }
 
 // The line that scripts read: `refused NUMBER PLACE LAYER`.

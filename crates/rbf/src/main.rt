@@ -1,5 +1,7 @@
 // The command line tool: makes RBF volumes in image files.
 
+#![tactic(auto)]
+
 mod show;
 
 use anyhow::anyhow;
@@ -24,14 +26,16 @@ enum Outcome {
 }
 
 fn refuse(rt: &HostRuntime, fault: CallFault) -> anyhow::Result<Outcome> {
-    rt.println(refusal_line(rt.alloc(), fault)?)?;
-    rt.println(plain_words(fault))?;
+    let line = refusal_line(rt.alloc(), fault)?;
+    println!(rt; "{line}")?;
+    let words = plain_words(fault);
+    println!(rt; "{words}")?;
     Ok(Outcome::Refused)
 }
 
 // Puts the bytes in place of a file, or leaves the file as it was.
 fn replace_file(rt: &HostRuntime, image: &str, bytes: &[u8]) -> anyhow::Result<()> {
-    let beside = format!(rt.alloc(), "{image}.new")?;
+    let beside = format!(in rt.alloc(); "{image}.new")?;
     fs::write(rt, beside.as_str(), bytes)?;
     fs::rename(rt, beside.as_str(), image)?;
     Ok(())
@@ -74,7 +78,7 @@ fn run(rt: &HostRuntime) -> anyhow::Result<Outcome> {
             return format(rt, command);
         }
     }
-    rt.println(USAGE)?;
+    println!(rt; "{USAGE}")?;
     Ok(Outcome::Refused)
 }
 

@@ -51,9 +51,9 @@ pub fn print_summary(
     let clear = summary.clear;
     let last = root.saturating_sub(1);
     let range = if last == 1 {
-        format!(rt.alloc(), "LSN 1")?
+        format!(in rt.alloc(); "LSN 1")?
     } else {
-        format!(rt.alloc(), "LSN 1 to {last}")?
+        format!(in rt.alloc(); "LSN 1 to {last}")?
     };
     println!(rt; "{image}: {len} bytes, {total} sectors")?;
     println!(rt;

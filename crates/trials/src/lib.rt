@@ -1,5 +1,7 @@
 // Trials of the devices and of format: what they do on examples, byte by byte.
 
+#![tactic(auto)]
+
 ghost use Rattle.std.specs.Prelude.{◌≡◌, ℕ, ◌+◌, ◌*◌, ◌/◌, ◌%◌, ◌<◌, [], ◌∷◌, IfOk, vec_len, slice_index};
 
 use std::alloc::{AllocError, Global};

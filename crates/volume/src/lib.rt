@@ -1,5 +1,7 @@
 // The volume layer: what a volume's record holds, and how a volume is made.
 
+#![tactic(auto)]
+
 pub mod count;
 pub mod fault;
 pub mod format;

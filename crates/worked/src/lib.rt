@@ -1,4 +1,6 @@
 // Worked cases: small volumes and trays, and what the definitions and contracts say of them.
+#![tactic(auto)]
+
 ghost use Rattle.std.specs.Prelude.{◌≡◌};
 ghost use Rattle.worked.specs.Cases.{Cases};
 

@@ -6,7 +6,7 @@ pub loop-place-preserved : goal.loop-place-preserved
 loop-place-preserved c =
     let n = c.loop-place.place in
     let many = c.loop-place.invariant.0 in
-    let pushed = c.in-ok-push.ensures.by_index in
+    let pushed = c.in_ok-push.ensures.by_index in
     let at : ℕ → ℕ = λ k. get_or (vec_items c.push.new.self) k 0 in
     let last : ℕ → Type 0 = λ k. at k ≡ n % 251 in (
       search rules,

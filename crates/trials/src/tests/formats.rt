@@ -102,9 +102,9 @@ const LAWFUL: [(usize, u32); 12] = [
 #[test]
 fn every_byte_of_a_new_volume_is_right(rt: HostRuntime) -> Result<(), Fail> {
     for (total, count) in LAWFUL {
-        lawful(&rt, rt.alloc(), count, total, b"Backup_1", 8).note(format_args!(
-            "{total} of {count} sectors"
-        ))?;
+        let checked = lawful(&rt, rt.alloc(), count, total, b"Backup_1", 8);
+        assert!(rt; checked.is_ok(), "{total} of {count} sectors");
+        checked?;
     }
     Ok(())
 }
@@ -123,9 +123,9 @@ fn a_total_out_of_bounds_is_refused(rt: HostRuntime) -> Result<(), Fail> {
         (65537, 65540),
         (usize::MAX, 16),
     ] {
-        unlawful(&rt, rt.alloc(), count, total, b"Backup_1", 8).note(format_args!(
-            "{total} of {count} sectors"
-        ))?;
+        let checked = unlawful(&rt, rt.alloc(), count, total, b"Backup_1", 8);
+        assert!(rt; checked.is_ok(), "{total} of {count} sectors");
+        checked?;
     }
     Ok(())
 }

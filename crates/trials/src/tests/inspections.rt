@@ -150,9 +150,12 @@ fn places_differ(rt: &impl Abort, heap: Global, sectors: u8, interleave: u8) -> 
 fn every_sector_has_a_place_of_its_own(rt: HostRuntime) -> Result<(), Fail> {
     for sectors in 1..=64 {
         for interleave in 1..=sectors {
-            places_differ(&rt, rt.alloc(), sectors, interleave).note(format_args!(
+            let checked = places_differ(&rt, rt.alloc(), sectors, interleave);
+            assert!(rt;
+                checked.is_ok(),
                 "{sectors} sectors, interleave {interleave}"
-            ))?;
+            );
+            checked?;
         }
     }
     Ok(())

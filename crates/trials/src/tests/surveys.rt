@@ -103,9 +103,9 @@ const DAMAGE: [(usize, u8, Rule, usize); 20] = [
 #[test]
 fn a_damaged_volume_is_refused(rt: HostRuntime) -> Result<(), Fail> {
     for (offset, byte, rule, sector) in DAMAGE {
-        broken(&rt, rt.alloc(), offset, byte, rule, sector).note(format_args!(
-            "byte {offset} changed to {byte}"
-        ))?;
+        let checked = broken(&rt, rt.alloc(), offset, byte, rule, sector);
+        assert!(rt; checked.is_ok(), "byte {offset} changed to {byte}");
+        checked?;
     }
     Ok(())
 }

@@ -8,8 +8,8 @@ returns-then-b-ge128 c =
     let ls = string_bytes c.loop-b.letters in
     let xs = c.args.stored.now in
     let i = c.loop-b.b-index in
-    let fits = c.type-inv.stored i in
-    let pushed = c.in-ok-push.ensures in
+    let fits = c.type_inv.stored i in
+    let pushed = c.in_ok-push.ensures in
     let is : c.from.result ≡ get_or xs i 0 - 128 = c.from.ensures in
     pushed.bytes
     ∙ ap (λ l. ls ++ l) (pushed.ascii (omega arith) ∙ ap (λ n. n ∷ []) is)
@@ -20,7 +20,7 @@ loop-b-preserved c =
     let ls = string_bytes c.loop-b.letters in
     let xs = c.args.stored.now in
     let i = c.loop-b.b-index in
-    let pushed = c.in-ok-push-2.ensures in
+    let pushed = c.in_ok-push-2.ensures in
     let is : c.from-in-loop-b.result ≡ get_or xs i 0 = c.from-in-loop-b.ensures in
     ap (λ l. l ++ name_of (drop (i + 1) xs)) (pushed.bytes ∙ ap (λ l. ls ++ l) (pushed.ascii (omega arith) ∙ ap (λ n. n ∷ []) is))
     ∙ letter_more ls xs i c.loop-b.invariant (omega arith) (omega arith)

@@ -14,8 +14,8 @@ loop-index-preserved g c =
     let before : min T (j * 2048) ≡ j * 2048 = omega arith in
     let after : min T ((j + 1) * 2048) ≡ j * 2048 + n = omega arith in (
       search rules,
-      ap₂ ◌+◌ (inv.1 ∙ ap (clear_below (taken m.sector)) before) (c.clear-in-clear.ensures.is ∙ ap (λ s. clear_below (bit_of s) n) read)
+      ap₂ ◌+◌ (inv.1 ∙ ap (clear_below (taken m.sector)) before) (c.clear_in-clear.ensures.is ∙ ap (λ s. clear_below (bit_of s) n) read)
           ∙ sym (clear_sector m.sector j n (omega arith))
           ∙ ap (clear_below (taken m.sector)) (sym after),
-      omega (arith, inv.2, c.clear-in-clear.ensures.few),
+      omega (arith, inv.2, c.clear_in-clear.ensures.few),
     )

@@ -7,7 +7,7 @@ pub returns : goal.returns
 returns g c =
     record {
       done = search rules;
-      reads = new_layout _ _ c.args.total c.args.name.now (search rules) (search rules) c.lay-volume.ensures.laid;
-      sound = new_sound _ _ c.args.total c.args.name.now (search rules) (search rules) (search rules) (search rules) (search rules) c.lay-volume.ensures.laid;
+      reads = new_layout _ _ c.args.total c.args.name.now (search rules) (search rules) c.lay_volume.ensures.laid;
+      sound = new_sound _ _ c.args.total c.args.name.now (search rules) (search rules) (search rules) (search rules) (search rules) c.lay_volume.ensures.laid;
       beside = search rules;
     }

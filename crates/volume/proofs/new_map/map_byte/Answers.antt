@@ -16,8 +16,8 @@ unfolding packed
 loop-place-preserved g c =
     let n = c.loop-place.place in
     let more : 2 ^ suc n ≡ 2 ^ n * 2 = pow-suc 2 n in
-    let bit = one_bit c.is-taken.result in
+    let bit = one_bit c.is_taken.result in
     rw add-one (
-      ap₂ (λ m b. m * 2 + b) c.loop-place.invariant.0 (c.from.ensures ∙ bit.0 ∙ ap (λ b. cond {A = ℕ} b 1 0) c.is-taken.ensures),
+      ap₂ (λ m b. m * 2 + b) c.loop-place.invariant.0 (c.from.ensures ∙ bit.0 ∙ ap (λ b. cond {A = ℕ} b 1 0) c.is_taken.ensures),
       omega (arith, c.from.ensures, bit.1, c.loop-place.invariant.1),
     )

@@ -11,7 +11,7 @@ loop-i-preserved g c =
     let xs = c.loop-i.sector in
     let i = c.loop-i.i in (
       length-set xs i _ ∙ c.loop-i.invariant.0,
-      λ k h. ap (λ v. get_or (set xs i v) k 0) c.map-byte.ensures ∙ fill_by_more f xs i 0 (omega (arith, c.loop-i.invariant.0)) c.loop-i.invariant.1 k h,
+      λ k h. ap (λ v. get_or (set xs i v) k 0) c.map_byte.ensures ∙ fill_by_more f xs i 0 (omega (arith, c.loop-i.invariant.0)) c.loop-i.invariant.1 k h,
     )
 
 pub returns : goal.returns

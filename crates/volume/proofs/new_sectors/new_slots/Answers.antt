@@ -5,6 +5,6 @@ use Rattle.volume.proofs.new_sectors.new_slots.Goals as goal
 
 pub returns : goal.returns
 returns c =
-    let root = c.root-lsn-lsn.ensures in
-    c.put-nth-2.ensures.laid
-    ∙ ap₂ (over 32) (ap₂ slot_bytes c.in-slot-2.ensures root) (c.put-nth.ensures.laid ∙ ap₂ (over 0) (ap₂ slot_bytes c.in-slot.ensures root) refl)
+    let root = c.root_lsn-lsn.ensures in
+    c.put_nth-2.ensures.laid
+    ∙ ap₂ (over 32) (ap₂ slot_bytes c.in_slot-2.ensures root) (c.put_nth.ensures.laid ∙ ap₂ (over 0) (ap₂ slot_bytes c.in_slot.ensures root) refl)

@@ -4,15 +4,15 @@ use Rattle.volume.specs.Surveying.{SurveyAnswer}
 use Rattle.volume.proofs.Surveys.{root_refused, exact}
 use Rattle.volume.proofs.survey_volume.survey.Goals as goal
 
-pub returns-in-err-check-root : goal.returns-in-err-check-root
-returns-in-err-check-root g c =
+pub returns-in_err-check_root : goal.returns-in_err-check_root
+returns-in_err-check_root g c =
     let d = g.D.Device.meaning c.args.device.now in
     let a = c.args.allocation in
     let room = length c.args.waiting.now in
     let marks = c.args.marks.now in
-    let r = c.from-residual-in-err-check-root.result in
-    let p = err_from_is_err_and r c.from-residual-in-err-check-root.ensures.1 in
-    let answer : SurveyAnswer d a room marks marks r = rw (p.1, p.2) (root_refused d a room marks marks (search rules) c.in-true.ensures.is _ c.in-err-check-root.ensures) in
+    let r = c.from_residual-in_err-check_root.result in
+    let p = err_from_is_err_and r c.from_residual-in_err-check_root.ensures.1 in
+    let answer : SurveyAnswer d a room marks marks r = rw (p.1, p.2) (root_refused d a room marks marks (search rules) c.in-true.ensures.is _ c.in_err-check_root.ensures) in
     record { answer = answer; passes = exact d a room marks marks r answer }
 
 pub returns-in-Err : goal.returns-in-Err
@@ -21,6 +21,6 @@ returns-in-Err g c =
     let a = c.args.allocation in
     let room = length c.args.waiting.now in
     let marks = c.args.marks.now in
-    let marks' = c.check-sectors.new.marks in
-    let answer : SurveyAnswer d a room marks marks' (Err c.refused-for.result) = search rules in
-    record { answer = answer; passes = exact d a room marks marks' (Err c.refused-for.result) answer }
+    let marks' = c.check_sectors.new.marks in
+    let answer : SurveyAnswer d a room marks marks' (Err c.refused_for.result) = search rules in
+    record { answer = answer; passes = exact d a room marks marks' (Err c.refused_for.result) answer }
