@@ -7,7 +7,7 @@ use Rattle.devices.specs.Meaning.{Meaning}
 use Rattle.layout.specs.Descriptor.{segments, extent}
 use Rattle.rules.specs.Nodes.{times, is_directory, children, Reached, at_root, by_slot, holds, Held, Parent, of_root, of_child}
 use Rattle.rules.specs.Rules.{sectors_of, map_of, root_at, Found, Inside, RuleB, RuleE, SlotsRight, Again, root_too, same_directory, two_directories, Twice, inside, shared, again, Owned}
-use Rattle.rules.specs.Walking.{system, hit, Visited, Walking, Walked, WalkStarts, WalkTurns, WalkClashes, WalkEnds, WalkFits}
+use Rattle.rules.specs.Walking.{system, hit, Visited, Walking, Walked, WalkStarts, WalkTurns, WalkClashes, WalkEnds, WalkLists, WalkFits}
 use Rattle.rules.proofs.Joins.{joined_has, joined_two, joined_some}
 use Rattle.rules.proofs.Room.{room}
 use Rattle.rules.proofs.Times.{hit_is, hit_self, times-++, times-one}
@@ -250,4 +250,11 @@ walk_ends d vs marks ins w =
       small = w.small;
       owned = is_owned d vs marks w;
       others = is_marked d vs marks w;
+    }
+
+pub walk_lists : WalkLists
+walk_lists d vs marks w =
+    record {
+      all = λ l r. omega (arith, all_visited d vs marks w l r, once d vs [] marks w l);
+      only = λ l pos. w.found l (omega arith);
     }

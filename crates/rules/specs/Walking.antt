@@ -4,7 +4,7 @@ use Rattle.std.specs.List.{flat_map}
 use Rattle.devices.specs.Meaning.{Meaning}
 use Rattle.layout.specs.Descriptor.{segments, extent}
 use Rattle.rules.specs.Nodes.{times, is_directory, children, holds, Parent}
-use Rattle.rules.specs.Rules.{sectors_of, map_of, root_at, Found, Inside, RuleB, RuleC, RuleD, RuleE, RuleF, SlotsRight, Twice, Owned}
+use Rattle.rules.specs.Rules.{sectors_of, map_of, root_at, Found, Inside, RuleB, RuleC, RuleD, RuleE, RuleF, SlotsRight, Twice, Owned, Listed}
 
 -- 1 for the system's sectors, and 0 for every other
 abbrev pub system : ℕ → ℕ → ℕ
@@ -72,6 +72,10 @@ pub record Walked (d : Meaning) (marks : ℕ → ℕ) : Type 0 where
 
 abbrev pub WalkEnds : Type 0
 WalkEnds = (d : Meaning) (vs : List ℕ) (marks : ℕ → ℕ) → Inside d (root_at d) → Walking d vs [] marks → Walked d marks
+
+-- and what was visited is a list of all that is reached
+abbrev pub WalkLists : Type 0
+WalkLists = (d : Meaning) (vs : List ℕ) (marks : ℕ → ℕ) → Walking d vs [] marks → Listed d vs
 
 -- there is room: no more are visited and wait than the volume has sectors
 abbrev pub WalkFits : Type 0

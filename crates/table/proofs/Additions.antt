@@ -4,7 +4,7 @@ use Rattle.std.proofs.lemmas.Bool.{cases_eq, cases_lt}
 use Rattle.devices.specs.Meaning.{Meaning}
 use Rattle.layout.specs.Directory.{Slot}
 use Rattle.layout.specs.Identification.{total}
-use Rattle.rules.specs.Nodes.{times, Reached, by_slot}
+use Rattle.rules.specs.Nodes.{times, ReachedBy, by_name}
 use Rattle.rules.specs.Rules.{sectors_of, map_of, root_at}
 use Rattle.rules.proofs.Times.{hit_is, hit_self, times-++}
 use Rattle.table.specs.Counts.{occupied}
@@ -68,15 +68,15 @@ module _ (d d' : Meaning) (w : ℕ → ℕ) (t t' : Table) (p : ℕ) (e e' : Ent
   ]
 
   -- what was reached still is
-  still : (l : ℕ) → 0 < present (t l) → Reached (λ q. names (t' q)) (root_at d) l
+  still : (l : ℕ) → 0 < present (t l) → ReachedBy (λ q. names (t' q)) (root_at d) l
   still l is =
       reach_more (root_at d) (λ q. names (t q)) (λ q. names (t' q))
       (λ q i pos. omega (arith, pos, leaf_more leaf_of q i))
       l (s.tree.reached l is)
 
-  add_reached : (l : ℕ) → 0 < present (t' l) → Reached (λ q. names (t' q)) (root_at d) l
+  add_reached : (l : ℕ) → 0 < present (t' l) → ReachedBy (λ q. names (t' q)) (root_at d) l
   add_reached l is = elim (hit_is l x) [
-    | inl h ↦ subst (Reached (λ q. names (t' q)) (root_at d)) (sym h.0) (by_slot p x (still p (omega (arith, ap present c.was))) (omega (arith, leaf_one leaf_of x, hit_self x)))
+    | inl h ↦ subst (ReachedBy (λ q. names (t' q)) (root_at d)) (sym h.0) (by_name p x (still p (omega (arith, ap present c.was))) (omega (arith, leaf_one leaf_of x, hit_self x)))
     | inr h ↦ still l (omega (arith, is, leaf_present leaf_of l, h.1))
   ]
 

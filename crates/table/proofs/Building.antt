@@ -7,7 +7,7 @@ use Rattle.layout.specs.Descriptor.{size, segments, extent, content}
 use Rattle.layout.specs.Directory.{Slot, empty, entry, slots}
 use Rattle.layout.specs.Map.{taken}
 use Rattle.descriptors.proofs.Blocks.{Wide, content-length}
-use Rattle.rules.specs.Nodes.{times, is_directory, children, Reached, at_root, by_slot, holds, Parent, of_root, of_child}
+use Rattle.rules.specs.Nodes.{times, is_directory, children, at_root, by_slot, ReachedBy, at_start, by_name, holds, Parent, of_root, of_child}
 use Rattle.rules.specs.Rules.{sectors_of, map_of, root_at, Found, Owned, Sound}
 use Rattle.rules.specs.Walking.{system, hit, Walking, Walked}
 use Rattle.rules.proofs.Joins.{joined_some}
@@ -72,7 +72,7 @@ module _ (d : Meaning) (whole : Whole d) (s : Sound d) (vs : List ℕ) (marks : 
   t = table_of d vs
 
   ends : Walked d marks
-  ends = walk_ends d vs marks walking
+  ends = walk_ends d vs marks s.root_inside walking
 
   -- reached descriptors are in the table, and no others
   is_there : (l : ℕ) → Found d l → t l ≡ Some (at d l)
@@ -148,9 +148,9 @@ module _ (d : Meaning) (whole : Whole d) (s : Sound d) (vs : List ℕ) (marks : 
         | inr plain ↦ subst (λ (o : Option Slot). Upward o p) (sym (ap up_of (is_there l r') ∙ up_file d l plain)) tt
       ]
 
-  reached : (l : ℕ) → Found d l → Reached (λ p. names (t p)) (root_at d) l
-  reached _ at_root = at_root
-  reached _ (by_slot p l r pos) = by_slot p l (reached p r) (omega (arith, pos, ap (λ o. times l (names o)) (is_there p r), ap (times l) (names_read d p)))
+  reached : (l : ℕ) → Found d l → ReachedBy (λ p. names (t p)) (root_at d) l
+  reached _ at_root = at_start
+  reached _ (by_slot p l r pos) = by_name p l (reached p r) (omega (arith, pos, ap (λ o. times l (names o)) (is_there p r), ap (times l) (names_read d p)))
 
   -- the system's sectors and held ones are taken
   few : (k : ℕ) → system (map_of d) k + claims t (sectors_of d) k ≤ occupied d k

@@ -8,8 +8,9 @@ use Rattle.devices.specs.Meaning.{Meaning}
 use Rattle.layout.specs.Descriptor.{content}
 use Rattle.layout.specs.Directory.{Slot, empty, entry, slot, slots}
 use Rattle.layout.specs.Records.{record_at}
-use Rattle.rules.specs.Nodes.{times, is_directory, named_by, children, Reached, at_root, by_slot, holds}
+use Rattle.rules.specs.Nodes.{times, is_directory, named_by, children, at_root, by_slot, holds}
 use Rattle.rules.specs.Rules.{sectors_of, root_at, Found}
+use Rattle.rules.proofs.Reaching.{from_naming}
 use Rattle.table.specs.Entries.{Body, file, directory, Entry, Table, read_entry, at, present, held, named_in, names, up_slot, up_of}
 use Rattle.table.specs.Standing.{Stands}
 use Rattle.table.proofs.Fields.{directory_read, file_read}
@@ -64,7 +65,8 @@ module _ (d : Meaning) (w : ℕ → ℕ) (t : Table) (s : Stands d w t) where
   -- the entries are those of the descriptors that are reached
   pub there_found : (l : ℕ) → 0 < present (t l) → Found d l
   there_found l is =
-      reach_more (root_at d) (λ p. names (t p)) (children d.sector) (λ p i pos. subst (λ (xs : List ℕ). 0 < times i xs) (names_are p (names_some i (t p) pos)) pos) l (s.tree.reached l is)
+      from_naming d.sector (root_at d) l
+      (reach_more (root_at d) (λ p. names (t p)) (children d.sector) (λ p i pos. subst (λ (xs : List ℕ). 0 < times i xs) (names_are p (names_some i (t p) pos)) pos) l (s.tree.reached l is))
 
   pub found_there : (l : ℕ) → Found d l → 0 < present (t l)
   found_there _ at_root = root-there (sectors_of d) t s.within (root_at d) s.tree

@@ -3,7 +3,7 @@ use Rattle.std.proofs.Common.{◌≡◌, ℕ, ◌+◌, ◌<◌, ◌≤◌, ◌�
 use Rattle.std.proofs.lemmas.Bool.{cases_eq}
 use Rattle.devices.specs.Meaning.{Meaning}
 use Rattle.layout.specs.Directory.{Slot}
-use Rattle.rules.specs.Nodes.{times, Reached}
+use Rattle.rules.specs.Nodes.{times, ReachedBy}
 use Rattle.rules.specs.Rules.{sectors_of, map_of, root_at}
 use Rattle.rules.proofs.Times.{hit_self, times-++}
 use Rattle.table.specs.Counts.{occupied}
@@ -43,7 +43,7 @@ module _ (d d' : Meaning) (w : ℕ → ℕ) (t t' : Table) (p : ℕ) (e e' : Ent
     | inr nx ↦ subst (λ (o : Option Slot). Upward o q) (leaf_ups leaf_of l nx) (s.tree.up q l (omega (arith, pos, leaf_others leaf_of q l nx)))
   ]
 
-  remove_reached : (l : ℕ) → 0 < present (t' l) → Reached (λ q. names (t' q)) (root_at d) l
+  remove_reached : (l : ℕ) → 0 < present (t' l) → ReachedBy (λ q. names (t' q)) (root_at d) l
   remove_reached l is =
       reach_less (root_at d) x (λ q. names (t q)) (λ q. names (t' q)) (λ q i ni pos. omega (arith, pos, leaf_others leaf_of q i ni)) (λ i. (leaf_none leaf_of i).1) l
       (s.tree.reached l (omega (arith, is, leaf_present leaf_of l)))

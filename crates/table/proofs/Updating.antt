@@ -4,7 +4,7 @@ use Rattle.std.proofs.lemmas.Bool.{cases_eq, cases_lt}
 use Rattle.devices.specs.Meaning.{Meaning, Kept}
 use Rattle.layout.specs.Identification.{total, map_bytes, cluster_size, root, sector_size}
 use Rattle.layout.specs.Map.{map_bytes_of, map_sectors}
-use Rattle.rules.specs.Nodes.{times, Reached}
+use Rattle.rules.specs.Nodes.{times, ReachedBy}
 use Rattle.rules.specs.Rules.{sectors_of, map_of, root_at, RuleA}
 use Rattle.rules.specs.Walking.{hit}
 use Rattle.table.specs.Counts.{claims, namings, occupied}
@@ -76,7 +76,7 @@ module _ (d d' : Meaning) (w : ℕ → ℕ) (t t' : Table) (s : Stands d w t) (p
 
     -- what is left to show of an update: ".." of each directory, and that every entry is reached
     pub update-stands :
-        up_of (t' (root_at d)) ≡ Some (dots (root_at d)) → ((q l : ℕ) → 0 < times l (names (t' q)) → Upward (up_of (t' l)) q) → ((l : ℕ) → 0 < present (t' l) → Reached (λ q. names (t' q)) (root_at d) l) → Stands d' w t'
+        up_of (t' (root_at d)) ≡ Some (dots (root_at d)) → ((q l : ℕ) → 0 < times l (names (t' q)) → Upward (up_of (t' l)) q) → ((l : ℕ) → 0 < present (t' l) → ReachedBy (λ q. names (t' q)) (root_at d) l) → Stands d' w t'
     update-stands top' up' reached' =
         let T : sectors_of d' ≡ sectors_of d = ap total same_zero in
         record {

@@ -5,7 +5,7 @@ use Rattle.layout.specs.Descriptor.{content}
 use Rattle.layout.specs.Directory.{slot, entry}
 use Rattle.layout.specs.Names.{name_of}
 use Rattle.layout.specs.Records.{record_at}
-use Rattle.rules.specs.Nodes.{times, is_directory, Reached}
+use Rattle.rules.specs.Nodes.{times, is_directory, ReachedBy}
 use Rattle.rules.specs.Rules.{sectors_of, map_of, root_at, RuleA, Tidy, SizeRight, SlotRight, Linked}
 use Rattle.rules.specs.Walking.{system, hit}
 use Rattle.table.specs.Counts.{claims, namings, occupied}
@@ -41,7 +41,7 @@ pub record Tree (root T : ℕ) (t : Table) : Type 0 where
   pub named : (l : ℕ) → hit root l + namings t T l ≡ present (t l)
   pub top : up_of (t root) ≡ Some (dots root)
   pub up : (p l : ℕ) → 0 < times l (names (t p)) → Upward (up_of (t l)) p
-  pub reached : (l : ℕ) → 0 < present (t l) → Reached (λ p. names (t p)) root l
+  pub reached : (l : ℕ) → 0 < present (t l) → ReachedBy (λ p. names (t p)) root l
 
 -- the device shows the table t, with these sectors withheld (1 for each)
 pub record Stands (d : Meaning) (withheld : ℕ → ℕ) (t : Table) : Type 0 where
