@@ -31,13 +31,13 @@ fn line_of(
 ) -> Result<String, AllocError>
     ensures { IfOk result (λ s. string_bytes s ≡ line_text label.now number place layer.now) }
 {
-    format!(heap, "{label}: refused {number} {place} {layer}")
+    format!(in heap; "{label}: refused {number} {place} {layer}")
 }
 
 fn broken_line(heap: Global, label: &str, place: usize, letter: char) -> Result<String, AllocError>
     ensures { IfOk result (λ s. string_bytes s ≡ broken_text label.now place letter) }
 {
-    format!(heap, "{label}: refused 22 {place} volume {letter}")
+    format!(in heap; "{label}: refused 22 {place} volume {letter}")
 }
 
 fn refusal_line(heap: Global, label: &str, fault: VolumeFault) -> Result<String, AllocError>
@@ -60,7 +60,7 @@ pub fn answer_line(heap: Global, label: &str, answer: Answer) -> Result<String, 
     ensures { IfOk result (λ s. string_bytes s ≡ answer_text label.now answer) }
 {
     match answer {
-        Answer::Passed { total, root } => format!(heap, "{label}: passed {total} {root}"),
+        Answer::Passed { total, root } => format!(in heap; "{label}: passed {total} {root}"),
         Answer::Refused(fault) => refusal_line(heap, label, fault),
     }
 }

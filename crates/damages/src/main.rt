@@ -1,5 +1,7 @@
 // Surveys of damaged volumes. Each line of standard input is a case, and prints its label and what the survey answers.
 
+#![tactic(auto)]
+
 mod answer;
 mod case;
 mod change;
@@ -25,7 +27,10 @@ fn answer_case(rt: &HostRuntime, base: &[u8], label: &str, words: &str) -> anyho
         Err(fault) => Err(fault),
     };
     match answer {
-        Ok(answer) => rt.println(answer_line(heap, label, answer)?)?,
+        Ok(answer) => {
+            let line = answer_line(heap, label, answer)?;
+            println!(rt; "{line}")?;
+        }
         Err(CaseFault::Word) => println!(rt; "{label}: not a case")?,
         Err(CaseFault::Memory) => return Err(anyhow!("there is no memory for the case")),
     }
@@ -35,7 +40,7 @@ fn answer_case(rt: &HostRuntime, base: &[u8], label: &str, words: &str) -> anyho
 fn run(rt: &HostRuntime) -> anyhow::Result<()> {
     let words: Vec<String> = env::args(rt)?.skip(1).collect(rt.alloc())?;
     let [image] = words.as_slice() else {
-        return Err(USAGE.into());
+        return Err(anyhow!(USAGE));
     };
     let base = fs::read(rt, image.as_str())?;
     for line in BufReader::new(rt.alloc(), rt.stdin())?.lines(rt.alloc()) {

@@ -7,10 +7,17 @@ use std::alloc::{AllocError, Global};
 use survey::waiting::Waiting;
 use volume::survey_volume::survey;
 
+// What a work list holds before a survey.
+const UNUSED: Waiting = Waiting {
+    lsn: 0,
+    parent: 0,
+    name: [0; 28],
+};
+
 fn survey_case<D: Device>(heap: Global, device: &D, asked: Asked) -> Result<Answer, AllocError> {
     let count = device.count();
     let mut marks = vec![in heap; 0u8; asked.marks.unwrap_or(count)]?;
-    let mut waiting = vec![in heap; Waiting::UNUSED; asked.waiting.unwrap_or(count)]?;
+    let mut waiting = vec![in heap; UNUSED; asked.waiting.unwrap_or(count)]?;
     let answer = survey(
         device,
         asked.allocation,

@@ -8,4 +8,4 @@ returns-in-Broken c =
     let at = c.in-Broken.sector in
     let e : refusal_text label c.args.fault ≡ broken_text label at c.letter.result =
     ap (refusal_text label) c.in-Broken.is ∙ ap (broken_text label at) (sym c.letter.ensures) in
-    subst (λ (t : List ℕ). IfOk c.broken-line.result (λ s. string_bytes s ≡ t)) (sym e) c.broken-line.ensures
+    subst (λ (t : List ℕ). IfOk c.broken_line.result (λ s. string_bytes s ≡ t)) (sym e) c.broken_line.ensures
