@@ -1,5 +1,5 @@
 -- The length of a flat image, by its sectors and what stands behind them.
-use Rattle.std.proofs.Common.{◌≡◌, ℕ, ◌*◌, ◌/◌, List, [], ◌∷◌, length, ap, arith, length-drop}
+use Rattle.std.proofs.Common.{◌≡◌, ℕ, ◌*◌, ◌/◌, List, length, ap, arith, length-drop}
 use Rattle.devices.specs.Flat.{tail}
 
 -- an image of n whole sectors has that length still, where the sectors are as many and the rest is the same

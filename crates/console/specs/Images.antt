@@ -7,7 +7,6 @@ use Rattle.volume.specs.Formatting.{Lawful, Formatted, Fresh, FormatRefuses}
 use Rattle.volume.specs.NewLayout.{NewLayout}
 use Rattle.volume.specs.NewVolume.{root_of}
 use Rattle.volume.specs.declared.volume_record.Volume.{Volume}
-use Rattle.files.specs.declared.call_fault.CallFault.{CallFault}
 use Rattle.files.specs.declared.call_fault.CallFault.TheVariants as call
 use Rattle.console.specs.declared.image.NewImage.{NewImage}
 use Rattle.console.specs.declared.image.ImageFault.{ImageFault}

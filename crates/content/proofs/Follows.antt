@@ -1,5 +1,5 @@
 -- What becomes of a file's bytes when its sectors, its size or its segments change.
-use Rattle.std.proofs.Common.{◌≡◌, ℕ, ◌+◌, ◌-◌, ◌*◌, ◌/◌, ◌<◌, ◌≤◌, max, true, false, List, [], ◌∷◌, ◌++◌, length, get_or, take, drop, sym, refl, ap, ◌∙◌, subst, ap₂, arith, length-append}
+use Rattle.std.proofs.Common.{◌≡◌, ℕ, ◌+◌, ◌-◌, ◌*◌, ◌/◌, ◌<◌, ◌≤◌, max, false, List, [], ◌∷◌, ◌++◌, length, get_or, take, drop, sym, refl, ap, ◌∙◌, subst, ap₂, arith, length-append}
 use Rattle.std.specs.List.{flat_map}
 use Rattle.std.proofs.lemmas.List.{append_assoc, take-append-drop, take-append-le, take_all, take-take, length-take-le, get_or-take, get_or_append_left, length-take}
 use Rattle.std.proofs.lemmas.Slice.{between_is}
@@ -7,14 +7,12 @@ use Rattle.std.proofs.lemmas.Bool.{both_ways}
 use Rattle.devices.specs.Meaning.{Meaning, Whole, Kept, Fails}
 use Rattle.devices.specs.declared.device.Cause.{Cause}
 use Rattle.devices.specs.declared.device.Cause.TheVariants.{Length, Range, Bad}
-use Rattle.devices.specs.declared.device.DeviceFault.{DeviceFault}
 use Rattle.layout.specs.Bytes.{over}
 use Rattle.layout.specs.Descriptor.{size, content}
 use Rattle.descriptors.proofs.Blocks.{length-row}
 use Rattle.descriptors.proofs.Cutting.{take_through}
-use Rattle.content.specs.Laws.{Holds, ContentLength, ContentWritten, ContentGrown, ContentShrunk, ContentCut, ContentKept, ContentBeside, NeverRefused}
-use Rattle.content.specs.Rows.{sectors, row, Within, Good, Distinct, Outside, Beside}
-use Rattle.content.specs.Writing.{Written}
+use Rattle.content.specs.Laws.{ContentLength, ContentWritten, ContentGrown, ContentShrunk, ContentCut, ContentKept, ContentBeside, NeverRefused}
+use Rattle.content.specs.Rows.{sectors, row, Within, Outside, Beside}
 use Rattle.content.proofs.WriteSteps.{same_row}
 
 -- the bytes of one list of sectors and then another

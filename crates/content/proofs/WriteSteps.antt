@@ -1,12 +1,12 @@
 -- Bytes written over the sectors of a file.
-use Rattle.std.proofs.Common.{◌≡◌, ℕ, zero, suc, ◌+◌, ◌-◌, ◌*◌, ◌/◌, ◌%◌, ◌<◌, ◌≤◌, ◌⊎◌, List, [], ◌∷◌, ◌++◌, length, get_or, take, drop, Ok, Err, Result, sym, refl, ap, ◌∙◌, ap₂, inl, inr, suc-mul, zero-add, zero-mul, arith, length-drop, take-add}
+use Rattle.std.proofs.Common.{◌≡◌, ℕ, zero, suc, ◌+◌, ◌-◌, ◌*◌, ◌/◌, ◌%◌, ◌<◌, ◌≤◌, List, [], ◌∷◌, ◌++◌, length, get_or, take, drop, Ok, Err, Result, sym, refl, ap, ◌∙◌, ap₂, inl, inr, suc-mul, zero-add, zero-mul, arith, length-drop, take-add}
 use lib.Seq.{take-append-add, drop-append-add}
 use Rattle.std.specs.List.{flat_map}
 use Rattle.std.proofs.lemmas.List.{append-nil, append_assoc, take-append-le, drop-append-le, drop_all, length-take-le}
 use Rattle.std.proofs.lemmas.Bool.{cases_eq}
 use Rattle.descriptors.proofs.Blocks.{Wide, length-row}
 use Rattle.descriptors.proofs.Laid.{over_none}
-use Rattle.devices.specs.Meaning.{Meaning, Whole, Accepts, Fails, Refuses, Kept, Same, WriteDone}
+use Rattle.devices.specs.Meaning.{Meaning, Whole, Fails, Refuses, Kept, Same, WriteDone}
 use Rattle.devices.specs.declared.device.Cause.{Cause}
 use Rattle.devices.specs.declared.device.Cause.TheVariants.{Length, Range, Bad}
 use Rattle.devices.specs.declared.device.DeviceFault.{DeviceFault}

@@ -1,8 +1,7 @@
 -- How many sectors a descriptor can name.
-use Rattle.std.proofs.Common.{◌≡◌, ℕ, zero, suc, ◌+◌, ◌*◌, ◌<◌, ◌≤◌, Bool, true, false, cond, ◌⊎◌, List, [], length, get_or, ap, ◌∙◌, inl, inr, arith, length-append, eq-eqb, ne_eqb}
+use Rattle.std.proofs.Common.{ℕ, zero, suc, ◌+◌, ◌*◌, ◌<◌, ◌≤◌, List, length, get_or, ap, inl, inr, arith, length-append, eq-eqb, ne_eqb}
 use Rattle.std.proofs.lemmas.Bool.{cases_eq}
-use Rattle.layout.specs.Bytes.{number}
-use Rattle.layout.specs.Descriptor.{segment, used, segments, upto, extent}
+use Rattle.layout.specs.Descriptor.{segment, used, segments, extent}
 use Rattle.layout.specs.declared.segment.Segment.{Segment}
 use Rattle.layout.specs.Digits.{number_lt}
 use Rattle.layout.proofs.Segments.{segment_numbers}

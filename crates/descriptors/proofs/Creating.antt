@@ -1,10 +1,9 @@
 -- What a new descriptor shows.
-use Rattle.std.proofs.Common.{◌≡◌, ℕ, ◌+◌, ◌%◌, ◌^◌, ◌<◌, ◌≤◌, List, [], ◌∷◌, length, replicate, sym, refl, ap, ◌∙◌, arith}
+use Rattle.std.proofs.Common.{◌≡◌, ℕ, ◌+◌, ◌%◌, ◌^◌, ◌<◌, ◌≤◌, List, [], ◌∷◌, length, replicate, refl, ap, ◌∙◌, arith}
 use Rattle.std.proofs.lemmas.List.{length-replicate}
 use Rattle.layout.specs.Bytes.{bytes, over}
-use Rattle.layout.specs.Descriptor as layout
 use Rattle.layout.specs.declared.segment.Segment.{Segment}
-use Rattle.layout.specs.Digits.{length-bytes, number_over, number_below, number_above}
+use Rattle.layout.specs.Digits.{length-bytes, number_over, number_below}
 use Rattle.layout.specs.Overs.{length_over}
 use Rattle.descriptors.specs.Created.{new_descriptor, new_shown}
 use Rattle.descriptors.specs.declared.heading.Heading.{Heading}

@@ -1,8 +1,8 @@
 -- The sectors of a segment list, from an entry on.
-use Rattle.std.proofs.Common.{◌≡◌, ℕ, zero, suc, ◌+◌, ◌-◌, ◌*◌, ◌<◌, ◌≤◌, cond, ◌⊎◌, List, [], ◌∷◌, ◌++◌, length, Some, None, Option, sym, refl, ap, ◌∙◌, inl, inr, arith, length-append, eq-eqb, ne_eqb}
-use Rattle.std.specs.List.{flat_map, slice_get}
+use Rattle.std.proofs.Common.{◌≡◌, ℕ, zero, suc, ◌+◌, ◌-◌, ◌<◌, ◌≤◌, List, [], ◌∷◌, ◌++◌, length, Some, None, sym, refl, ap, ◌∙◌, inl, inr, arith, length-append, eq-eqb, ne_eqb}
+use Rattle.std.specs.List.{slice_get}
 use Rattle.std.proofs.lemmas.Bool.{cases_lt}
-use Rattle.layout.specs.Descriptor.{segment, used, segments, upto, extent}
+use Rattle.layout.specs.Descriptor.{segment, used, upto, extent}
 use Rattle.layout.specs.declared.segment.Segment.{Segment}
 use Rattle.descriptors.specs.Entries.{Used}
 

@@ -4,7 +4,7 @@ use Rattle.std.proofs.lemmas.List.{append-nil, append_assoc}
 use Rattle.layout.specs.Descriptor.{upto, extent}
 use Rattle.layout.specs.declared.segment.Segment.{Segment}
 use Rattle.descriptors.specs.Lists.{nowhere, last_of, lengthened}
-use Rattle.descriptors.specs.Stored.{Storable, AllStorable}
+use Rattle.descriptors.specs.Stored.{AllStorable}
 
 -- one run and the next
 pub upto_add : (s a b : ℕ) → upto s (a + b) ≡ upto s a ++ upto (s + a) b

@@ -1,10 +1,10 @@
 -- A descriptor with bytes laid over some of it: fields that lie apart from them, and the segment entries.
 use Rattle.std.proofs.Common.{◌≡◌, ℕ, zero, suc, ◌+◌, ◌-◌, ◌*◌, ◌<◌, ◌≤◌, cond, eqb, List, [], ◌∷◌, ◌++◌, length, get_or, take, drop, sym, refl, ap, ◌∙◌, ap₂, add-zero, arith, length-drop, length-take}
 use Rattle.std.proofs.lemmas.List.{append-nil, take-append-drop, ext_get_or, get_or-take, get_or-drop}
-use Rattle.layout.specs.Bytes.{number, over}
-use Rattle.layout.specs.Descriptor.{segment_of, segment, used, segments}
+use Rattle.layout.specs.Bytes.{over}
+use Rattle.layout.specs.Descriptor.{segment, used, segments}
 use Rattle.layout.specs.declared.segment.Segment.{Segment}
-use Rattle.layout.specs.Overs.{length_over, over_below, over_in, over_above, part_over}
+use Rattle.layout.specs.Overs.{length_over, over_below, over_above, part_over}
 use Rattle.layout.proofs.Segments.{segment_same}
 
 -- nothing is laid

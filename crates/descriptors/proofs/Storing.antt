@@ -1,10 +1,10 @@
 -- A segment list in the bytes of a descriptor: written entry by entry, and read back.
-use Rattle.std.proofs.Common.{◌≡◌, ℕ, zero, suc, ◌+◌, ◌-◌, ◌*◌, ◌^◌, ◌<◌, ◌≤◌, true, false, ◌⊎◌, List, [], ◌∷◌, ◌++◌, length, get_or, take, drop, replicate, sym, refl, ap, ◌∙◌, ap₂, inl, inr, arith, length-append, eq-eqb, ne_eqb}
-use Rattle.std.specs.List.{flat_map, AllByRecursion as All}
+use Rattle.std.proofs.Common.{◌≡◌, ℕ, zero, suc, ◌+◌, ◌-◌, ◌*◌, ◌^◌, ◌<◌, ◌≤◌, List, [], ◌∷◌, ◌++◌, length, get_or, take, replicate, sym, refl, ap, ◌∙◌, ap₂, inl, inr, arith, length-append, eq-eqb, ne_eqb}
+use Rattle.std.specs.List.{flat_map}
 use Rattle.std.proofs.ByRecursion.{All-get_or}
-use Rattle.std.proofs.lemmas.List.{append_assoc, length_push, flat_map_more, take_more, take_all, length-take-le, length-replicate, get_or_append_left, get_or-append_right, get_or-replicate, get_or_past, get_or-drop}
+use Rattle.std.proofs.lemmas.List.{append_assoc, length_push, flat_map_more, take_more, length-take-le, length-replicate, get_or_append_left, get_or-append_right, get_or-replicate, get_or_past, get_or-drop}
 use Rattle.std.proofs.lemmas.Bool.{cases_lt}
-use Rattle.layout.specs.Bytes.{bytes, number, over}
+use Rattle.layout.specs.Bytes.{bytes, over}
 use Rattle.layout.specs.Descriptor.{segment_of, segment_bytes, segment, used, segments}
 use Rattle.layout.specs.declared.segment.Segment.{Segment}
 use Rattle.layout.specs.Digits.{length-bytes, number_same, number_bytes}

@@ -1,6 +1,6 @@
 -- A new descriptor.
 use Rattle.std.specs.Prelude.{ℕ, List, [], ◌∷◌}
-use Rattle.layout.specs.Bytes.{Field, bytes, laid}
+use Rattle.layout.specs.Bytes.{bytes, laid}
 use Rattle.layout.specs.declared.segment.Segment.{Segment}
 use Rattle.descriptors.specs.declared.heading.Heading.{Heading}
 use Rattle.descriptors.specs.Shown.{Shown}

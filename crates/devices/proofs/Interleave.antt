@@ -1,5 +1,5 @@
 -- The interleave is a permutation of the places: Euclid's lemma by subtraction.
-use Rattle.std.proofs.Common.{◌≡◌, ℕ, zero, suc, ◌+◌, ◌-◌, ◌*◌, ◌/◌, ◌%◌, ◌<◌, ◌≤◌, ◌⊎◌, sym, ap, ◌∙◌, ⊎_elim, mod-lt, mul_comm, arith}
+use Rattle.std.proofs.Common.{◌≡◌, ℕ, zero, suc, ◌+◌, ◌-◌, ◌*◌, ◌/◌, ◌%◌, ◌<◌, ◌≤◌, sym, ap, ◌∙◌, ⊎_elim, mod-lt, mul_comm, arith}
 use Prim.Native.Nat.{◌∣◌}
 use native.Mathlib.Nat.{one-dvd, dvd-add, dvd-sub, dvd_refl, dvd-mul_left, dvd-mul_right, div-mul_cancel, mul-sub, mul-dvd-mul_right, dvd_of_mul-dvd-mul_right, le_of_dvd, mod-eq-zero_of_dvd, dvd_of_mod-eq-zero, div-add-mod, pos_of_dvd_of_pos}
 use lib.Arith.{digits_div, digits_mod, digits_lt}

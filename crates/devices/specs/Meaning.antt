@@ -1,5 +1,5 @@
 -- What a device means, and what reading and writing do to it.
-use Rattle.std.specs.Prelude.{◌≡◌, ℕ, ◌+◌, ◌*◌, ◌/◌, ◌<◌, ◌≤◌, Bool, true, false, List, length, take, drop, Ok, Err, Result, ◌≢◌}
+use Rattle.std.specs.Prelude.{◌≡◌, ℕ, ◌<◌, ◌≤◌, Bool, true, false, List, length, take, drop, Ok, Err, Result, ◌≢◌}
 use Rattle.devices.specs.declared.device.Cause.{Cause}
 use Rattle.devices.specs.declared.device.Cause.TheVariants.{Length, Range, Bad}
 use Rattle.devices.specs.declared.device.DeviceFault.{DeviceFault}

@@ -1,7 +1,7 @@
 -- The five bytes of a segment entry, in a descriptor.
 use Rattle.std.proofs.Common.{◌≡◌, ℕ, ◌+◌, ◌*◌, ◌<◌, ◌≤◌, List, [], ◌∷◌, length, get_or, take, drop, sym, refl, ap, ◌∙◌, ap₂, arith, length-append, eq-eqb, ne_eqb}
 use Rattle.std.proofs.lemmas.List.{get_or-take, get_or-drop}
-use Rattle.layout.specs.Bytes.{number, bytes}
+use Rattle.layout.specs.Bytes.{number}
 use Rattle.layout.specs.Descriptor.{segment_of, segment_bytes, segment, segments, used}
 use Rattle.layout.specs.Records.{record_at}
 use Rattle.layout.specs.declared.segment.Segment.{Segment}

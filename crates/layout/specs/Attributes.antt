@@ -1,5 +1,5 @@
 -- An attribute, letter by letter.
-use Rattle.std.specs.Prelude.{ℕ, cond, List, [], ◌∷◌, map, codes, slice_index}
+use Rattle.std.specs.Prelude.{ℕ, cond, List, map, codes, slice_index}
 use Rattle.std.specs.List.{range_with_len}
 use Rattle.layout.specs.Map.{bit_at}
 

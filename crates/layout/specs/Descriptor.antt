@@ -1,5 +1,5 @@
 -- A descriptor, by its fields, and the sectors that its segments name. Every 256 bytes can be read so, damaged ones too.
-use Rattle.std.specs.Prelude.{ℕ, zero, suc, ◌+◌, ◌-◌, ◌*◌, cond, List, [], ◌∷◌, ◌++◌, take, drop, ◌==◌}
+use Rattle.std.specs.Prelude.{ℕ, zero, suc, ◌+◌, ◌*◌, cond, List, [], ◌∷◌, ◌++◌, take, drop, ◌==◌}
 use Rattle.std.specs.List.{flat_map}
 use Rattle.layout.specs.Bytes.{number, bytes}
 use Rattle.layout.specs.declared.segment.Segment.{Segment}

@@ -1,5 +1,5 @@
 -- A directory: slots of 32 bytes, one after the other.
-use Rattle.std.specs.Prelude.{ℕ, ◌*◌, ◌/◌, cond, List, [], ◌∷◌, ◌++◌, map, length, take, replicate, ◌==◌, slice_index}
+use Rattle.std.specs.Prelude.{ℕ, ◌/◌, cond, List, ◌∷◌, ◌++◌, map, length, take, replicate, ◌==◌, slice_index}
 use Rattle.std.specs.List.{range_with_len}
 use Rattle.layout.specs.Bytes.{number, bytes, over}
 use Rattle.layout.specs.Names.{name_of}

@@ -1,5 +1,5 @@
 -- Records of one width, side by side.
-use Rattle.std.specs.Prelude.{◌≡◌, ℕ, ◌+◌, ◌*◌, ◌/◌, ◌<◌, ◌≤◌, Bool, true, false, List, length, take, drop, Some, None, Option}
+use Rattle.std.specs.Prelude.{◌≡◌, ℕ, ◌+◌, ◌*◌, ◌<◌, ◌≤◌, Bool, true, false, List, length, take, drop, Some, None, Option}
 
 -- the k-th record of a table, of w bytes
 abbrev pub record_at : ℕ → ℕ → List ℕ → List ℕ

@@ -1,9 +1,9 @@
 -- The 32 bytes of a slot.
-use Rattle.std.specs.Prelude.{◌≡◌, ℕ, suc, ◌+◌, ◌-◌, ◌^◌, ◌<◌, ◌≤◌, List, [], ◌∷◌, ◌++◌, length, drop, ◌≢◌, slice_index, slice_index_or, refl}
-use Rattle.std.proofs.Common.{sym, ap, ap₂, ◌∙◌, arith, ne_eqb, length-append, length-drop}
+use Rattle.std.specs.Prelude.{◌≡◌, ℕ, suc, ◌+◌, ◌-◌, ◌^◌, ◌<◌, List, [], ◌∷◌, ◌++◌, length, drop, ◌≢◌, slice_index, slice_index_or}
+use Rattle.std.proofs.Common.{ap, ap₂, ◌∙◌, arith, ne_eqb, length-append, length-drop}
 use borrow.Rule.Slice.PartMut.{put_mid, post_of}
 use Rattle.std.proofs.lemmas.List.{append-nil, take_at, drop_at, drop_all, get_or_append_left, get_or-append_right}
-use Rattle.layout.specs.Bytes.{number, bytes}
+use Rattle.layout.specs.Bytes.{bytes}
 use Rattle.layout.specs.Names.{name_of}
 use Rattle.layout.specs.Directory.{entry, slot, stored_slot, slot_bytes}
 use Rattle.layout.specs.declared.stored_slot.StoredSlot.{StoredSlot}

@@ -1,6 +1,6 @@
 -- What adding, moving and removing a path does to the open paths by number.
-use Rattle.std.proofs.Common.{◌≡◌, ℕ, ◌+◌, ◌<◌, ◌≤◌, ◌⊎◌, List, length, get_or, set, Some, None, Option, sym, refl, ap, ◌∙◌, subst, inl, inr, arith, get_or-set_other, get_or-set_same}
-use Rattle.paths.specs.Paths.{path_at, open_count, of_kind, if_kind, Numbered, Put, First, Free, opened_path, Added, at_position, if_open, Moved, Removed}
+use Rattle.std.proofs.Common.{◌≡◌, ℕ, ◌+◌, ◌<◌, List, length, get_or, set, Some, None, Option, sym, refl, ap, ◌∙◌, subst, inl, inr, arith, get_or-set_other, get_or-set_same}
+use Rattle.paths.specs.Paths.{path_at, if_kind, First, Free, opened_path, Added, at_position, if_open, Moved, Removed}
 use Rattle.paths.specs.declared.open_path.OpenPath.{OpenPath}
 use Rattle.paths.specs.declared.open_path.PathKind.{PathKind}
 use Rattle.paths.specs.declared.open_path.PathKind.TheVariants.{Read, Update}

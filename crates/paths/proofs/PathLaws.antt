@@ -1,8 +1,8 @@
 -- Open paths in their places: what a change of one place does to the paths by number.
-use Rattle.std.proofs.Common.{◌≡◌, ℕ, zero, suc, ◌+◌, ◌<◌, ◌≤◌, Bool, true, false, cond, eqb, ◌≢◌, ◌⊎◌, List, [], ◌∷◌, length, get_or, drop, set, Some, None, Option, sym, refl, ap, ◌∙◌, subst, inl, inr, arith, get_or-set_other, get_or-set_same, eq-eqb, ne_eqb}
+use Rattle.std.proofs.Common.{◌≡◌, ℕ, zero, suc, ◌+◌, ◌<◌, ◌≤◌, Bool, cond, eqb, ◌⊎◌, List, [], ◌∷◌, length, get_or, drop, set, Some, None, Option, sym, refl, ap, ◌∙◌, subst, inl, inr, arith, get_or-set_other, get_or-set_same, eq-eqb, ne_eqb}
 use Rattle.std.proofs.lemmas.List.{at_drop_more}
-use Rattle.std.proofs.lemmas.Bool.{cases_eq, cases_lt}
-use Rattle.paths.specs.Paths.{path_at, open_count, Numbered, Put, First}
+use Rattle.std.proofs.lemmas.Bool.{cases_eq}
+use Rattle.paths.specs.Paths.{path_at, open_count, Numbered}
 use Rattle.paths.specs.declared.open_path.OpenPath.{OpenPath}
 
 -- a place has no path, or one with this number

@@ -1,5 +1,5 @@
 -- The open paths of a volume, by their numbers.
-use Rattle.std.specs.Prelude.{◌≡◌, ℕ, ◌+◌, ◌<◌, ◌≤◌, cond, ◌⊎◌, List, [], ◌∷◌, length, get_or, Some, None, Option, ◌==◌, ◌≢◌, slice_index_or}
+use Rattle.std.specs.Prelude.{◌≡◌, ℕ, ◌+◌, ◌<◌, ◌≤◌, cond, ◌⊎◌, List, [], ◌∷◌, get_or, Some, None, Option, ◌==◌, ◌≢◌, slice_index_or}
 use Rattle.paths.specs.declared.open_path.OpenPath.{OpenPath}
 use Rattle.paths.specs.declared.open_path.PathKind.{PathKind}
 use Rattle.paths.specs.declared.open_path.PathKind.TheVariants.{Read, Update}

@@ -1,5 +1,5 @@
 -- A finding and a pass exclude each other.
-use Rattle.std.proofs.Common.{◌≡◌, ℕ, Bool, true, false, ◌⊎◌, sym, ap, ◌∙◌, inl, inr, arith}
+use Rattle.std.proofs.Common.{◌≡◌, ℕ, Bool, true, false, inl, inr, arith}
 use Rattle.devices.specs.Meaning.{Meaning}
 use Rattle.rules.specs.Rules.{Sound, Broken}
 use Rattle.rules.specs.declared.rule.Rule.{Rule}

@@ -1,5 +1,5 @@
 -- Elements of a list, and how often they stand in it.
-use Rattle.std.proofs.Common.{◌≡◌, ℕ, zero, suc, ◌<◌, List, [], ◌∷◌, length, get_or, Some, None, refl, inl, inr, arith}
+use Rattle.std.proofs.Common.{◌≡◌, ℕ, zero, suc, ◌<◌, List, [], ◌∷◌, length, get_or, Some, refl, inl, inr, arith}
 use Rattle.std.specs.List.{slice_get}
 use Rattle.rules.specs.Nodes.{times}
 use Rattle.rules.proofs.Times.{hit_is}

@@ -1,13 +1,13 @@
 -- The walk of a survey: how it starts, what a turn does, what a clash shows, and what is known at its end.
-use Rattle.std.proofs.Common.{◌≡◌, ℕ, ◌+◌, ◌<◌, ◌≤◌, true, cond, eqb, leb, ◌⊎◌, List, [], ◌∷◌, ◌++◌, length, sym, refl, ap, ◌∙◌, subst, inl, inr, arith, length-append, le-leb}
+use Rattle.std.proofs.Common.{◌≡◌, ℕ, ◌+◌, ◌<◌, ◌≤◌, ◌⊎◌, List, [], ◌∷◌, ◌++◌, sym, refl, ap, ◌∙◌, subst, inl, inr, arith, length-append, le-leb}
 use borrow.Author.Tests.{lt-leb}
 use Rattle.std.specs.List.{flat_map}
 use Rattle.std.proofs.lemmas.Bool.{cases_eq, cases_lt}
 use Rattle.devices.specs.Meaning.{Meaning}
 use Rattle.layout.specs.Descriptor.{segments, extent}
-use Rattle.rules.specs.Nodes.{times, is_directory, children, Reached, at_root, by_slot, holds, Held, Parent, of_root, of_child}
-use Rattle.rules.specs.Rules.{sectors_of, map_of, root_at, Found, Inside, RuleB, RuleE, SlotsRight, Again, root_too, same_directory, two_directories, Twice, inside, shared, again, Owned}
-use Rattle.rules.specs.Walking.{system, hit, Visited, Walking, Walked, WalkStarts, WalkTurns, WalkClashes, WalkEnds, WalkLists, WalkFits}
+use Rattle.rules.specs.Nodes.{times, children, at_root, by_slot, holds, Parent, of_root, of_child}
+use Rattle.rules.specs.Rules.{sectors_of, map_of, root_at, Found, Inside, SlotsRight, Again, root_too, same_directory, two_directories, Twice, inside, shared, again, Owned}
+use Rattle.rules.specs.Walking.{system, Visited, Walking, WalkStarts, WalkTurns, WalkClashes, WalkEnds, WalkLists, WalkFits}
 use Rattle.rules.proofs.Joins.{joined_has, joined_two, joined_some}
 use Rattle.rules.proofs.Room.{room}
 use Rattle.rules.proofs.Times.{hit_is, hit_self, times-++, times-one}

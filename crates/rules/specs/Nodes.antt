@@ -1,5 +1,5 @@
 -- Files and directories as the sectors show them, damaged ones too: what each holds, what it names, and which are reached.
-use Rattle.std.specs.Prelude.{◌≡◌, ℕ, ◌+◌, ◌<◌, Bool, cond, List, [], ◌∷◌, drop, ◌==◌}
+use Rattle.std.specs.Prelude.{ℕ, ◌+◌, ◌<◌, Bool, cond, List, [], ◌∷◌, drop, ◌==◌}
 use Rattle.layout.specs.Descriptor.{attribute, segments, extent, content}
 use Rattle.layout.specs.Directory.{Slot, empty, entry, slots}
 use Rattle.layout.specs.Map.{bit_at}

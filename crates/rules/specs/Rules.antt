@@ -1,8 +1,8 @@
 -- The rules of a sound volume, each with the sector at which it is broken.
-use Rattle.std.specs.Prelude.{◌≡◌, ℕ, ◌+◌, ◌*◌, ◌/◌, ◌%◌, ◌<◌, ◌≤◌, Bool, true, false, ◌⊎◌, List, length, take, codes, ◌≢◌, slice_index, slice_index_or}
+use Rattle.std.specs.Prelude.{◌≡◌, ℕ, ◌*◌, ◌/◌, ◌%◌, ◌<◌, ◌≤◌, true, false, ◌⊎◌, List, length, take, codes, ◌≢◌, slice_index, slice_index_or}
 use Rattle.devices.specs.Meaning.{Meaning}
 use Rattle.layout.specs.Descriptor.{link_count, size, segment, segments, extent, content}
-use Rattle.layout.specs.Directory.{Slot, empty, entry, slots, slot}
+use Rattle.layout.specs.Directory.{entry, slot}
 use Rattle.layout.specs.Identification.{total, map_bytes, cluster_size, root, sector_size}
 use Rattle.layout.specs.Map.{map_bytes_of, map_sectors, taken}
 use Rattle.layout.specs.Names.{name_byte, name_of}

@@ -1,6 +1,5 @@
 -- The walk, one visit after another.
-use Rattle.std.proofs.Common.{◌≡◌, ℕ, zero, suc, ◌+◌, ◌-◌, ◌<◌, ◌≤◌, Bool, true, false, ◌⊎◌, List, [], ◌∷◌, ◌++◌, map, length, get_or, take, Ok, Err, sym, refl, ap, ◌∙◌, subst, ap₂, inl, inr, arith, length-append}
-use Rattle.std.specs.List.{flat_map}
+use Rattle.std.proofs.Common.{◌≡◌, ℕ, ◌+◌, ◌-◌, ◌<◌, ◌≤◌, true, ◌⊎◌, List, [], ◌∷◌, ◌++◌, map, length, get_or, take, Err, sym, refl, ap, ◌∙◌, subst, inl, inr, arith, length-append}
 use Rattle.std.proofs.lemmas.List.{take_more, map-append, get_or-take, get_or-map, get_or-append_right, length-map, length-take-le, get_or_default}
 use Rattle.std.proofs.lemmas.Bool.{cases_lt}
 use Rattle.devices.specs.Meaning.{Meaning, Fails, Refuses}
@@ -8,8 +7,8 @@ use Rattle.devices.specs.declared.device.Cause.{Cause}
 use Rattle.devices.specs.declared.device.Cause.TheVariants.{Length, Range, Bad}
 use Rattle.devices.specs.declared.device.DeviceFault.{DeviceFault}
 use Rattle.layout.specs.Descriptor.{segments, extent}
-use Rattle.rules.specs.Nodes.{times, is_directory, children, holds, Held, Parent, of_root, of_child}
-use Rattle.rules.specs.Rules.{sectors_of, map_of, root_at, Found, Inside, RuleB, RuleC, RuleD, RuleE, RuleF, Owned, Wanted, Broken}
+use Rattle.rules.specs.Nodes.{times, is_directory, children, holds, Parent, of_root, of_child}
+use Rattle.rules.specs.Rules.{sectors_of, map_of, root_at, Found, Inside, RuleB, RuleC, RuleD, RuleE, RuleF, Wanted, Broken}
 use Rattle.rules.specs.Walking.{system, hit, Visited, Walking, Walked}
 use Rattle.rules.specs.declared.rule.Rule.{Rule}
 use Rattle.rules.specs.declared.rule.Rule.TheVariants as rule
@@ -17,7 +16,7 @@ use Rattle.rules.proofs.Times.{hit_is, times-++}
 use Rattle.rules.proofs.Walks.{walk_starts, walk_turns, walk_clashes, walk_fits, walk_ends}
 use Rattle.survey.specs.Names.{nobody}
 use Rattle.survey.specs.Scanning.{lsns}
-use Rattle.survey.specs.Visiting.{Points, Visit, VisitBreaks, VisitAnswer}
+use Rattle.survey.specs.Visiting.{Visit, VisitBreaks, VisitAnswer}
 use Rattle.survey.specs.Walks.{WalkAnswer}
 use Rattle.survey.specs.declared.finding.Finding.{Finding}
 use Rattle.survey.specs.declared.finding.Finding.TheVariants as finding

@@ -1,10 +1,10 @@
 -- Marks, one run after another.
-use Rattle.std.proofs.Common.{◌≡◌, ℕ, zero, suc, ◌+◌, ◌-◌, ◌<◌, ◌≤◌, ◌⊎◌, List, [], ◌∷◌, ◌++◌, length, get_or, set, sym, refl, ap, ◌∙◌, inl, inr, arith, get_or-set_other, get_or-set_same}
+use Rattle.std.proofs.Common.{◌≡◌, ℕ, ◌+◌, ◌-◌, ◌<◌, ◌≤◌, List, length, get_or, set, ap, ◌∙◌, inl, inr, arith, get_or-set_other, get_or-set_same}
 use Rattle.std.proofs.lemmas.Bool.{cases_eq, cases_lt}
 use Rattle.layout.specs.Descriptor.{upto}
 use Rattle.rules.specs.Nodes.{times}
 use Rattle.survey.specs.Marks.{Marked}
-use Rattle.survey.proofs.Within.{upto_in, upto_out, upto_has}
+use Rattle.survey.proofs.Within.{upto_in, upto_out}
 
 -- a run and one sector more
 pub upto_more : (i s n : ℕ) → times i (upto s (n + 1)) ≡ times i (upto s n) + times i (upto (s + n) 1)

@@ -1,5 +1,5 @@
 -- A scan, one slot after another.
-use Rattle.std.proofs.Common.{◌≡◌, ℕ, zero, suc, ◌+◌, ◌-◌, ◌*◌, ◌/◌, ◌<◌, ◌≤◌, Bool, true, false, cond, eqb, ◌≢◌, ◌⊎◌, List, [], ◌∷◌, ◌++◌, map, length, get_or, take, drop, set, sym, refl, ap, ◌∙◌, subst, ap₂, inl, inr, arith, length-append, length-set, get_or-set_other, get_or-set_same, eq-eqb, ne_eqb}
+use Rattle.std.proofs.Common.{◌≡◌, ℕ, zero, suc, ◌+◌, ◌-◌, ◌<◌, ◌≤◌, true, cond, ◌⊎◌, List, [], ◌∷◌, ◌++◌, map, length, get_or, take, drop, set, sym, refl, ap, ◌∙◌, subst, inl, inr, arith, length-set, get_or-set_other, get_or-set_same, eq-eqb, ne_eqb}
 use Rattle.std.specs.List.{range_with_len}
 use Rattle.std.proofs.lemmas.List.FromFn.{map-range_with_len_more}
 use Rattle.std.proofs.lemmas.List.{append_assoc, append-nil, take_more_set, take-set-le, map-append, length-map, length-take-le}
@@ -8,7 +8,6 @@ use Rattle.devices.specs.Meaning.{Meaning}
 use Rattle.layout.specs.Descriptor.{content}
 use Rattle.layout.specs.Directory.{Slot, empty, entry, slot, slots, stored_slot, slot_name}
 use Rattle.layout.specs.Names.{marked, name_of}
-use Rattle.layout.specs.Records.{record_at}
 use Rattle.rules.specs.Nodes.{times, is_directory, named_by, children}
 use Rattle.rules.specs.Rules.{slot_bytes_at, slot_count, SlotRight}
 use Rattle.rules.proofs.Times.{hit_is, times-++, times-one}

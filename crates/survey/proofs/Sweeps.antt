@@ -1,12 +1,10 @@
 -- A walk that ended, and then the map: what the two show together.
-use Rattle.std.proofs.Common.{◌≡◌, ℕ, ◌<◌, ◌≤◌, ◌⊎◌, List, get_or, Ok, Err, Result, sym, ap, subst, inl, inr, arith}
+use Rattle.std.proofs.Common.{ℕ, ◌<◌, List, get_or, Ok, Err, Result, sym, subst, inl, inr, arith}
 use Rattle.devices.specs.Meaning.{Meaning}
-use Rattle.layout.specs.Map.{map_sectors}
 use Rattle.rules.specs.declared.rule.Rule.{Rule}
 use Rattle.rules.specs.Rules.{sectors_of, root_at, Inside, Owned, Broken as BrokenAt}
-use Rattle.rules.specs.Walking.{Walked}
-use Rattle.survey.specs.MapChecks.{MapAnswer, Right, Spoilt}
-use Rattle.survey.specs.Walks.{WalkAnswer, Checked, CheckAnswer}
+use Rattle.survey.specs.MapChecks.{MapAnswer}
+use Rattle.survey.specs.Walks.{WalkAnswer, CheckAnswer}
 use Rattle.survey.specs.declared.finding.Finding.{Finding}
 use Rattle.survey.specs.declared.finding.Finding.TheVariants.{Broken, Unread}
 

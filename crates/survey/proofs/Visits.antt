@@ -1,14 +1,14 @@
 -- A visit: the descriptor's own bytes, its sectors' marks, and the scan of its slots.
-use Rattle.std.proofs.Common.{◌≡◌, ℕ, ◌+◌, ◌<◌, ◌≤◌, Bool, true, false, cond, ◌⊎◌, List, length, get_or, Ok, Err, Result, sym, refl, ap, ◌∙◌, subst, inl, inr, arith}
+use Rattle.std.proofs.Common.{◌≡◌, ℕ, true, List, Ok, Err, Result, inr, arith}
 use Rattle.devices.specs.Meaning.{Meaning}
 use Rattle.layout.specs.Descriptor.{segments, extent}
-use Rattle.rules.specs.Nodes.{times, is_directory, children}
-use Rattle.rules.specs.Rules.{SegmentsWithin, Tidy, SizeRight, Linked, SlotsRight}
+use Rattle.rules.specs.Nodes.{is_directory}
+use Rattle.rules.specs.Rules.{SegmentsWithin, Tidy, SizeRight, Linked}
 use Rattle.rules.specs.declared.rule.Rule.{Rule}
 use Rattle.rules.specs.declared.rule.Rule.TheVariants as rule
 use Rattle.survey.specs.Marks.{Marked}
-use Rattle.survey.specs.Scanning.{RightBelow, Scanned, ScanBreaks, ScanAnswer}
-use Rattle.survey.specs.Visiting.{Points, VisitBreaks, VisitAnswer, Dotted}
+use Rattle.survey.specs.Scanning.{ScanBreaks, ScanAnswer}
+use Rattle.survey.specs.Visiting.{VisitBreaks, VisitAnswer, Dotted}
 use Rattle.survey.specs.declared.finding.Finding.{Finding}
 use Rattle.survey.specs.declared.finding.Finding.TheVariants.{Broken, Unread}
 use Rattle.survey.specs.declared.waiting.Waiting.{Waiting}

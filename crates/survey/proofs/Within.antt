@@ -1,7 +1,7 @@
 -- The sectors of a segment list, by its entries.
-use Rattle.std.proofs.Common.{◌≡◌, ℕ, zero, suc, ◌+◌, ◌-◌, ◌*◌, ◌<◌, ◌≤◌, cond, eqb, ◌⊎◌, List, [], ◌∷◌, ◌++◌, sym, refl, ap, ◌∙◌, inl, inr, arith}
+use Rattle.std.proofs.Common.{◌≡◌, ℕ, zero, suc, ◌+◌, ◌<◌, ◌≤◌, ◌⊎◌, List, [], ◌∷◌, ◌++◌, refl, ap, ◌∙◌, inl, inr, arith}
 use Rattle.std.proofs.lemmas.Bool.{cases_eq, cases_lt}
-use Rattle.layout.specs.Descriptor.{segment, used, segments, upto, extent}
+use Rattle.layout.specs.Descriptor.{segment, segments, upto, extent}
 use Rattle.layout.specs.declared.segment.Segment.{Segment}
 use Rattle.rules.specs.Nodes.{times}
 use Rattle.rules.proofs.Times.{hit_is}

@@ -1,5 +1,5 @@
 -- What the marks and the map ask of each sector.
-use Rattle.std.specs.Prelude.{◌≡◌, ℕ, ◌+◌, ◌*◌, ◌<◌, ◌≤◌, Bool, true, false, ◌⊎◌, List, Ok, Err, Result, slice_index}
+use Rattle.std.specs.Prelude.{◌≡◌, ℕ, ◌+◌, ◌<◌, ◌≤◌, Bool, true, false, ◌⊎◌, List, Ok, Err, Result, slice_index}
 use Rattle.devices.specs.Meaning.{Meaning}
 use Rattle.devices.specs.declared.device.Cause.TheVariants.{Bad}
 use Rattle.layout.specs.Map.{map_sectors, bit_of, taken}

@@ -1,5 +1,5 @@
 -- The slots of a directory, from slot 2 on: what a scan asks of them, and what waits after it.
-use Rattle.std.specs.Prelude.{◌≡◌, ℕ, ◌+◌, ◌<◌, ◌≤◌, List, [], ◌∷◌, ◌++◌, map, length, take, Ok, Err, Result, ◌≢◌, slice_index, slice_index_or}
+use Rattle.std.specs.Prelude.{◌≡◌, ℕ, ◌+◌, ◌<◌, ◌≤◌, List, ◌++◌, map, length, take, Ok, Err, Result, ◌≢◌, slice_index, slice_index_or}
 use Rattle.devices.specs.Meaning.{Meaning, Refuses}
 use Rattle.layout.specs.Descriptor.{segments, extent}
 use Rattle.layout.specs.Names.{name_of}

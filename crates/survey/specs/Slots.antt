@@ -1,5 +1,5 @@
 -- A slot, read from the sector that it lies in.
-use Rattle.std.specs.Prelude.{◌≡◌, ℕ, ◌+◌, ◌*◌, ◌/◌, ◌%◌, List, take, drop, Some, Ok, Err, Result}
+use Rattle.std.specs.Prelude.{◌≡◌, ℕ, ◌/◌, ◌%◌, List, Some, Ok, Err, Result}
 use Rattle.std.specs.List.{slice_get}
 use Rattle.devices.specs.Meaning.{Meaning, Accepts, Refuses}
 use Rattle.devices.specs.declared.device.DeviceFault.{DeviceFault}

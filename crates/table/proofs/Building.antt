@@ -1,15 +1,15 @@
 -- Where every rule holds, a table stands: the entries of all descriptors that a walk visits.
-use Rattle.std.proofs.Common.{◌≡◌, ℕ, zero, suc, ◌+◌, ◌-◌, ◌*◌, ◌/◌, ◌<◌, ◌≤◌, Bool, true, false, cond, eqb, ◌⊎◌, List, [], ◌∷◌, ◌++◌, length, get_or, Some, None, Option, sym, refl, ap, ◌∙◌, subst, inl, inr, arith, eq-eqb, ne_eqb}
+use Rattle.std.proofs.Common.{◌≡◌, ℕ, ◌+◌, ◌-◌, ◌<◌, ◌≤◌, true, false, List, [], ◌∷◌, length, get_or, Some, None, Option, sym, refl, ap, ◌∙◌, subst, inl, inr, arith, eq-eqb, ne_eqb}
 use Rattle.std.specs.List.{flat_map}
 use Rattle.std.proofs.lemmas.Bool.{cases_eq, cases_Bool, cases_lt}
 use Rattle.devices.specs.Meaning.{Meaning, Whole}
 use Rattle.layout.specs.Descriptor.{size, segments, extent, content}
-use Rattle.layout.specs.Directory.{Slot, empty, entry, slots}
+use Rattle.layout.specs.Directory.{Slot}
 use Rattle.layout.specs.Map.{taken}
 use Rattle.descriptors.proofs.Blocks.{Wide, content-length}
 use Rattle.rules.specs.Nodes.{times, is_directory, children, at_root, by_slot, ReachedBy, at_start, by_name, holds, Parent, of_root, of_child}
-use Rattle.rules.specs.Rules.{sectors_of, map_of, root_at, Found, Owned, Sound}
-use Rattle.rules.specs.Walking.{system, hit, Walking, Walked}
+use Rattle.rules.specs.Rules.{sectors_of, map_of, root_at, Found, Sound}
+use Rattle.rules.specs.Walking.{system, Walking, Walked}
 use Rattle.rules.proofs.Joins.{joined_some}
 use Rattle.rules.proofs.Members.{get_or-times}
 use Rattle.rules.proofs.Times.{hit_is, times-++}
@@ -18,7 +18,7 @@ use Rattle.table.specs.Counts.{sum, claims, namings, occupied}
 use Rattle.table.specs.Entries.{Entry, Table, put, at, present, held, names, up_of, dots, Upward}
 use Rattle.table.specs.Laws.{SoundTable}
 use Rattle.table.specs.Standing.{Shows, Stands}
-use Rattle.table.proofs.Listings.{Complete, complete, parent_of}
+use Rattle.table.proofs.Listings.{complete, parent_of}
 use Rattle.table.proofs.Occupied.{occupied_is, taken_one}
 use Rattle.table.proofs.Reading.{held_read, names_read, up_directory, up_file, slot_at}
 use Rattle.table.proofs.Spaces.{names_some}

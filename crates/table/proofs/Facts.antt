@@ -1,24 +1,23 @@
 -- What a volume on which a table stands is good for: sectors that can be read and written, entries that can be followed.
-use Rattle.std.proofs.Common.{◌≡◌, ℕ, ◌+◌, ◌*◌, ◌/◌, ◌%◌, ◌<◌, ◌≤◌, Bool, true, false, ◌⊎◌, List, [], ◌∷◌, length, get_or, Some, None, codes, Option, sym, refl, ap, ◌∙◌, subst, inl, inr, arith}
-use Rattle.std.proofs.lemmas.Bool.{cases_Bool, cases_eq, cases_lt}
+use Rattle.std.proofs.Common.{◌≡◌, ℕ, ◌*◌, ◌<◌, ◌≤◌, true, false, List, ◌∷◌, length, get_or, Some, None, codes, Option, sym, ap, ◌∙◌, subst, inl, inr, arith}
+use Rattle.std.proofs.lemmas.Bool.{cases_Bool, cases_eq}
 use Rattle.devices.specs.Meaning.{Meaning, Whole}
 use Rattle.layout.specs.Descriptor.{size, segments, extent, content}
 use Rattle.layout.specs.Directory.{Slot, empty, entry, slots}
 use Rattle.layout.specs.Map.{taken}
 use Rattle.descriptors.proofs.Blocks.{Wide, content-length}
-use Rattle.rules.specs.Nodes.{times, is_directory, named_by}
+use Rattle.rules.specs.Nodes.{times, is_directory}
 use Rattle.rules.specs.Rules.{sectors_of, map_of, root_at}
-use Rattle.rules.specs.Walking.{hit}
 use Rattle.rules.proofs.Members.{get_or-times}
-use Rattle.rules.proofs.Times.{hit_is, hit_self}
+use Rattle.rules.proofs.Times.{hit_is}
 use Rattle.rules.proofs.Walks.{system_is}
-use Rattle.table.specs.Counts.{claims, namings, occupied}
-use Rattle.table.specs.Entries.{Body, file, directory, Entry, Table, read_entry, present, held, named_in, names, up_slot, up_of, dots, Upward}
+use Rattle.table.specs.Counts.{occupied}
+use Rattle.table.specs.Entries.{file, directory, Entry, Table, read_entry, present, held, named_in, names, up_slot, up_of, dots, Upward}
 use Rattle.table.specs.Standing.{Lawful, SlotsLawful, Stands}
 use Rattle.table.proofs.Fields.{directory_read, file_read}
 use Rattle.table.proofs.Frames.{segments_shown}
 use Rattle.table.proofs.Naming.{child_has}
-use Rattle.table.proofs.Occupied.{occupied_is, occupied_small, occupied_below, taken_none}
+use Rattle.table.proofs.Occupied.{occupied_small, occupied_below, taken_none}
 use Rattle.table.proofs.Reading.{slot_at}
 use Rattle.table.proofs.SlotBytes.{slots_length, one_slot}
 use Rattle.table.proofs.Spaces.{below, held-taken, held_once, clear_none, named-there, naming_two, present_small, root-unnamed}

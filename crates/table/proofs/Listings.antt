@@ -1,9 +1,9 @@
 -- Where every rule holds, a walk goes to every descriptor that is reached, and ends.
-use Rattle.std.proofs.Common.{◌≡◌, ℕ, zero, suc, ◌+◌, ◌<◌, ◌≤◌, true, ◌⊎◌, List, [], ◌∷◌, ◌++◌, length, refl, inl, inr, arith}
+use Rattle.std.proofs.Common.{ℕ, zero, suc, ◌+◌, ◌<◌, ◌≤◌, List, [], ◌∷◌, ◌++◌, length, refl, inl, inr, arith}
 use Rattle.std.proofs.lemmas.Bool.{cases_lt}
 use Rattle.devices.specs.Meaning.{Meaning}
 use Rattle.layout.specs.Descriptor.{segments, extent}
-use Rattle.rules.specs.Nodes.{times, is_directory, children, Reached, at_root, by_slot, Parent, of_root, of_child}
+use Rattle.rules.specs.Nodes.{times, children, at_root, by_slot, Parent, of_root, of_child}
 use Rattle.rules.specs.Rules.{sectors_of, map_of, root_at, Found, Inside, Sound}
 use Rattle.rules.specs.Walking.{system, hit, Visited, Walking}
 use Rattle.rules.proofs.Times.{hit_self, times-++}

@@ -1,5 +1,5 @@
 -- Slots of a directory, and how often they name a descriptor.
-use Rattle.std.proofs.Common.{◌≡◌, ℕ, zero, suc, ◌+◌, ◌-◌, ◌<◌, ◌≤◌, List, [], ◌∷◌, ◌++◌, length, get_or, drop, set, Some, sym, refl, ap, ◌∙◌, inl, inr, arith, length-drop}
+use Rattle.std.proofs.Common.{◌≡◌, ℕ, zero, suc, ◌+◌, ◌-◌, ◌<◌, ◌≤◌, List, [], ◌∷◌, ◌++◌, length, get_or, drop, set, Some, sym, ap, ◌∙◌, inl, inr, arith, length-drop}
 use Rattle.std.proofs.lemmas.List.{drop-set-add, drop-append-le, get_or-drop, get_or-set_other, get_or_append_left}
 use Rattle.layout.specs.Directory.{Slot, empty, entry}
 use Rattle.rules.specs.Nodes.{times, named_by}

@@ -1,6 +1,5 @@
 -- Entries as a device shows them, and the descriptors that are reached.
-use Rattle.std.proofs.Common.{◌≡◌, ℕ, ◌/◌, ◌<◌, ◌≤◌, Bool, true, false, cond, ◌⊎◌, List, [], ◌∷◌, length, get_or, drop, Some, None, Option, sym, refl, ap, ◌∙◌, subst, inl, inr, arith}
-use Rattle.std.specs.List.{range_with_len}
+use Rattle.std.proofs.Common.{◌≡◌, ℕ, ◌/◌, ◌<◌, Bool, true, false, cond, List, [], length, get_or, drop, Some, None, sym, refl, ap, ◌∙◌, subst, inl, inr, arith}
 use Rattle.std.proofs.lemmas.List.FromFn.{get_or-map-range_with_len, length-map-range_with_len}
 use Rattle.std.proofs.lemmas.List.{get_or_past}
 use Rattle.std.proofs.lemmas.Bool.{cases_lt}
@@ -11,7 +10,7 @@ use Rattle.layout.specs.Records.{record_at}
 use Rattle.rules.specs.Nodes.{times, is_directory, named_by, children, at_root, by_slot, holds}
 use Rattle.rules.specs.Rules.{sectors_of, root_at, Found}
 use Rattle.rules.proofs.Reaching.{from_naming}
-use Rattle.table.specs.Entries.{Body, file, directory, Entry, Table, read_entry, at, present, held, named_in, names, up_slot, up_of}
+use Rattle.table.specs.Entries.{file, directory, Table, read_entry, at, present, held, named_in, names, up_slot, up_of}
 use Rattle.table.specs.Standing.{Stands}
 use Rattle.table.proofs.Fields.{directory_read, file_read}
 use Rattle.table.proofs.Reaches.{reach_more}

@@ -1,12 +1,11 @@
 -- A leaf is removed from a directory.
-use Rattle.std.proofs.Common.{◌≡◌, ℕ, ◌+◌, ◌<◌, ◌≤◌, ◌⊎◌, List, ◌++◌, Some, None, Option, sym, refl, ap, ◌∙◌, subst, inl, inr, arith}
+use Rattle.std.proofs.Common.{◌≡◌, ℕ, ◌<◌, ◌++◌, Some, Option, sym, ap, ◌∙◌, subst, inl, inr, arith}
 use Rattle.std.proofs.lemmas.Bool.{cases_eq}
 use Rattle.devices.specs.Meaning.{Meaning}
 use Rattle.layout.specs.Directory.{Slot}
 use Rattle.rules.specs.Nodes.{times, ReachedBy}
-use Rattle.rules.specs.Rules.{sectors_of, map_of, root_at}
+use Rattle.rules.specs.Rules.{sectors_of, root_at}
 use Rattle.rules.proofs.Times.{hit_self, times-++}
-use Rattle.table.specs.Counts.{occupied}
 use Rattle.table.specs.Entries.{Entry, Table, present, held, names, up_of, Upward}
 use Rattle.table.specs.Laws.{RemoveKeeps}
 use Rattle.table.specs.Standing.{Shows, Stands}

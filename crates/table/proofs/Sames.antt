@@ -1,16 +1,15 @@
 -- A device that means the same shows the same table.
-use Rattle.std.proofs.Common.{◌≡◌, ℕ, ◌+◌, ◌<◌, ◌≤◌, ◌⊎◌, [], Some, refl, ap, inl, inr, arith}
+use Rattle.std.proofs.Common.{◌≡◌, ℕ, ◌<◌, [], Some, refl, ap, arith}
 use Rattle.devices.specs.Meaning.{Meaning, Same}
 use Rattle.rules.specs.Nodes.{times}
 use Rattle.rules.specs.Rules.{sectors_of, map_of, root_at}
-use Rattle.rules.proofs.Walks.{system_is}
 use Rattle.table.specs.Counts.{occupied}
-use Rattle.table.specs.Entries.{Entry, Table, present, held}
+use Rattle.table.specs.Entries.{Entry, Table, held}
 use Rattle.table.specs.Laws.{SameKeeps}
 use Rattle.table.specs.Standing.{Shows, Stands}
 use Rattle.table.proofs.Frames.{frame}
 use Rattle.table.proofs.Occupied.{occupied_small, occupied_same, occupied_below}
-use Rattle.table.proofs.Spaces.{below, held_some, held-taken, held_self, root-there}
+use Rattle.table.proofs.Spaces.{below, held-taken, held_self, root-there}
 use Rattle.table.proofs.Updating.{update-stands}
 
 module _ (d d' : Meaning) (w : ℕ → ℕ) (t : Table) (s : Stands d w t) (same : Same d d') where

@@ -1,11 +1,10 @@
 -- The slots of a directory, by their bytes: one that is written or added, and names that no other has.
-use Rattle.std.proofs.Common.{◌≡◌, ℕ, ◌+◌, ◌/◌, ◌<◌, ◌≤◌, cond, ◌⊎◌, List, [], ◌∷◌, ◌++◌, length, get_or, take, set, sym, refl, ap, ◌∙◌, subst, inl, inr, arith, length-set, eq-eqb, ne_eqb}
-use Rattle.std.specs.List.{range_with_len}
+use Rattle.std.proofs.Common.{◌≡◌, ℕ, ◌+◌, ◌/◌, ◌<◌, ◌≤◌, List, [], ◌∷◌, ◌++◌, length, get_or, take, set, sym, refl, ap, ◌∙◌, subst, inl, inr, arith, length-set, eq-eqb, ne_eqb}
 use Rattle.std.proofs.lemmas.List.FromFn.{length-map-range_with_len}
 use Rattle.std.proofs.lemmas.List.{ext_get_or, get_or-set_same, get_or-set_other, get_or_append_left, get_or_push, length_push}
 use Rattle.std.proofs.lemmas.Bool.{cases_eq, cases_lt, cases_order}
 use Rattle.layout.specs.Bytes.{number}
-use Rattle.layout.specs.Directory.{Slot, empty, entry, stored_slot, slot, slots}
+use Rattle.layout.specs.Directory.{empty, entry, stored_slot, slot, slots}
 use Rattle.layout.specs.Names.{name_of}
 use Rattle.layout.specs.Records.{record_at}
 use Rattle.rules.specs.Rules.{SlotRight}

@@ -1,20 +1,20 @@
 -- Where a table stands, every rule of a sound volume holds.
-use Rattle.std.proofs.Common.{◌≡◌, ℕ, ◌+◌, ◌<◌, ◌≤◌, Bool, true, false, ◌⊎◌, List, [], get_or, Some, None, codes, Option, sym, refl, ap, ◌∙◌, subst, inl, inr, arith}
-use Rattle.std.proofs.lemmas.Bool.{cases_Bool, cases_lt}
+use Rattle.std.proofs.Common.{◌≡◌, ℕ, ◌<◌, Bool, true, false, get_or, Some, None, codes, Option, sym, refl, ap, ◌∙◌, subst, inl, inr, arith}
+use Rattle.std.proofs.lemmas.Bool.{cases_Bool}
 use Rattle.devices.specs.Meaning.{Meaning}
-use Rattle.layout.specs.Descriptor.{segments, extent, content}
+use Rattle.layout.specs.Descriptor.{content}
 use Rattle.layout.specs.Directory.{Slot, empty, entry, slot, slots}
 use Rattle.layout.specs.Map.{taken}
-use Rattle.rules.specs.Nodes.{times, is_directory, children, at_root, holds, Held, Parent, of_root, of_child}
-use Rattle.rules.specs.Rules.{sectors_of, map_of, root_at, Found, Inside, RuleB, RuleE, SlotsRight, slot_bytes_at, Again, root_too, same_directory, two_directories, Twice, inside, shared, again, Owned, Wanted, Sound}
+use Rattle.rules.specs.Nodes.{times, is_directory, children, at_root, holds, Parent, of_root, of_child}
+use Rattle.rules.specs.Rules.{sectors_of, map_of, root_at, Found, Inside, SlotsRight, slot_bytes_at, Again, root_too, same_directory, two_directories, Twice, inside, shared, again, Owned, Wanted, Sound}
 use Rattle.rules.proofs.Walks.{system_is}
-use Rattle.table.specs.Counts.{claims, occupied}
-use Rattle.table.specs.Entries.{Entry, Table, at, present, held, names, up_of, dots, Upward}
+use Rattle.table.specs.Counts.{occupied}
+use Rattle.table.specs.Entries.{Table, at, present, held, names, up_of, dots, Upward}
 use Rattle.table.specs.Laws.{TableSound}
 use Rattle.table.specs.Standing.{Lawful, Stands}
 use Rattle.table.proofs.Occupied.{occupied_is, occupied_small, occupied_below}
 use Rattle.table.proofs.Reading.{entry_read, names_are, held_are, there_found, found_there, up_directory, up_file, slot_within}
-use Rattle.table.proofs.Spaces.{held_self, claim_one, naming_one, naming_two, held-taken, held-apart, held_once, named-there, root-there, root-unnamed, present_small}
+use Rattle.table.proofs.Spaces.{held_self, naming_one, naming_two, held-taken, held-apart, held_once, named-there, root-there, root-unnamed, present_small}
 
 module _ (d : Meaning) (w : ℕ → ℕ) (t : Table) (s : Stands d w t) where
   there : (l : ℕ) → Found d l → 0 < present (t l)

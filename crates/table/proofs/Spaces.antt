@@ -1,8 +1,7 @@
 -- What one equation a sector says: held sectors are taken, lie behind the map, and are held once.
-use Rattle.std.proofs.Common.{◌≡◌, ℕ, ◌+◌, ◌<◌, ◌≤◌, ◌⊎◌, List, [], Some, None, Option, refl, ap, subst, inl, inr, arith}
+use Rattle.std.proofs.Common.{◌≡◌, ℕ, ◌+◌, ◌<◌, ◌≤◌, Some, None, Option, refl, ap, subst, inl, inr, arith}
 use Rattle.std.proofs.lemmas.Bool.{cases_lt}
 use Rattle.rules.specs.Nodes.{times}
-use Rattle.rules.specs.Walking.{hit}
 use Rattle.rules.proofs.Times.{hit_is, hit_self}
 use Rattle.rules.proofs.Walks.{system_is}
 use Rattle.table.specs.Counts.{claims, namings}

@@ -1,10 +1,10 @@
 -- A device shows one table at most; and the root alone, where it names nothing.
-use Rattle.std.proofs.Common.{◌≡◌, ℕ, ◌+◌, ◌<◌, ◌≤◌, ◌⊎◌, List, [], Some, None, sym, refl, ap, ◌∙◌, inl, inr, arith}
+use Rattle.std.proofs.Common.{◌≡◌, ℕ, [], None, sym, refl, ap, ◌∙◌, inl, inr, arith}
 use Rattle.std.proofs.lemmas.Bool.{cases_lt}
 use Rattle.devices.specs.Meaning.{Meaning}
-use Rattle.rules.specs.Nodes.{times, children, Reached, at_root, by_slot}
+use Rattle.rules.specs.Nodes.{times, children, at_root, by_slot}
 use Rattle.rules.specs.Rules.{sectors_of, root_at, Found}
-use Rattle.table.specs.Entries.{Table, at, present, held}
+use Rattle.table.specs.Entries.{Table, present, held}
 use Rattle.table.specs.Laws.{OneTable, RootAlone}
 use Rattle.table.specs.Standing.{Stands}
 use Rattle.table.proofs.Reading.{entry_read, there_found, found_there}

@@ -1,13 +1,13 @@
 -- A volume of which two entries change at most: what an update keeps, whatever it is.
-use Rattle.std.proofs.Common.{◌≡◌, ℕ, ◌+◌, ◌<◌, ◌≤◌, false, ◌⊎◌, List, Some, None, Option, sym, refl, ap, ◌∙◌, subst, inl, inr, arith}
-use Rattle.std.proofs.lemmas.Bool.{cases_eq, cases_lt}
+use Rattle.std.proofs.Common.{◌≡◌, ℕ, ◌+◌, ◌<◌, ◌≤◌, List, Some, None, sym, refl, ap, ◌∙◌, subst, inl, inr, arith}
+use Rattle.std.proofs.lemmas.Bool.{cases_eq}
 use Rattle.devices.specs.Meaning.{Meaning, Kept}
 use Rattle.layout.specs.Identification.{total, map_bytes, cluster_size, root, sector_size}
 use Rattle.layout.specs.Map.{map_bytes_of, map_sectors}
 use Rattle.rules.specs.Nodes.{times, ReachedBy}
 use Rattle.rules.specs.Rules.{sectors_of, map_of, root_at, RuleA}
 use Rattle.rules.specs.Walking.{hit}
-use Rattle.table.specs.Counts.{claims, namings, occupied}
+use Rattle.table.specs.Counts.{namings, occupied}
 use Rattle.table.specs.Entries.{Entry, Table, present, held, names, up_of, dots, Upward}
 use Rattle.table.specs.Standing.{Shows, Space, Tree, Stands}
 use Rattle.table.specs.Updates.{Beside}

@@ -1,5 +1,5 @@
 -- What stays of a device, over one change and then another.
-use Rattle.std.proofs.Common.{◌≡◌, ℕ, ◌<◌, false, sym, ◌∙◌, arith}
+use Rattle.std.proofs.Common.{◌≡◌, ℕ, ◌<◌, false, ◌∙◌, arith}
 use Rattle.devices.specs.Meaning.{Meaning, Kept}
 
 pub kept_then : (P Q : ℕ → Type 0) (a b c : Meaning) → Kept P a b → Kept Q b c → Kept (λ k. P k × Q k) a c

@@ -1,23 +1,23 @@
 -- What format leaves, read by the layout.
-use Rattle.std.proofs.Common.{◌≡◌, ℕ, ◌+◌, ◌*◌, ◌/◌, ◌^◌, ◌<◌, ◌≤◌, true, ◌⊎◌, List, [], ◌∷◌, ◌++◌, map, length, get_or, take, drop, replicate, codes, sym, refl, ap, ◌∙◌, ap₂, inl, inr, arith, length-append}
+use Rattle.std.proofs.Common.{◌≡◌, ℕ, ◌+◌, ◌*◌, ◌/◌, ◌<◌, ◌≤◌, true, List, [], ◌∷◌, map, length, get_or, take, replicate, codes, sym, refl, ap, ◌∙◌, ap₂, inl, inr, arith}
 use Rattle.std.specs.List.{flat_map, range_with_len}
 use Rattle.std.proofs.lemmas.List.{append-nil, length-replicate, length-take-le}
 use Rattle.std.proofs.lemmas.Bool.Decides.{nat_tests}
 use Rattle.devices.specs.Meaning.{Meaning}
 use Rattle.layout.specs.Bytes.{Field, number, bytes, over, laid_over}
-use Rattle.layout.specs.Descriptor.{size, segment, segments, upto, extent, content, segment_bytes}
-use Rattle.layout.specs.Directory.{Slot, entry, slot, slots, slot_name, slot_bytes}
+use Rattle.layout.specs.Descriptor.{segment, upto, extent, content, segment_bytes}
+use Rattle.layout.specs.Directory.{entry, slot, slots, slot_name, slot_bytes}
 use Rattle.layout.specs.Map.{map_bytes_of, map_sectors}
 use Rattle.layout.specs.Names.{VolumeName, name_byte, marked, name_of}
 use Rattle.layout.specs.Records.{record_at}
 use Rattle.layout.specs.declared.segment.Segment.{Segment}
 use Rattle.layout.proofs.Bits.{map-taken}
 use Rattle.layout.specs.Digits.{length-bytes}
-use Rattle.layout.proofs.Lays.{Inside, Apart, Holds, length-laid, number_apart, number_held, number_zeros}
+use Rattle.layout.proofs.Lays.{Inside, Apart, length-laid, number_apart, number_held, number_zeros}
 use Rattle.layout.proofs.Marks.{length_marked, name_of_marked}
 use Rattle.layout.specs.Overs.{length_over, over_over, part_over}
 use Rattle.layout.proofs.Rows.{record_here, record_take, record_below}
-use Rattle.layout.proofs.Segments.{length-segment, segment_numbers, one_segment}
+use Rattle.layout.proofs.Segments.{segment_numbers, one_segment}
 use Rattle.layout.specs.Slots.{length-slot, slot_entry}
 use Rattle.volume.specs.Formatting.{Formatted}
 use Rattle.volume.specs.NewLayout.{IdentificationReads, RootReads, NewLayout}

@@ -1,21 +1,19 @@
 -- What format leaves satisfies every rule.
-use Rattle.std.proofs.Common.{◌≡◌, ℕ, ◌+◌, ◌*◌, ◌/◌, ◌%◌, ◌<◌, ◌≤◌, Bool, true, false, cond, ◌||◌, leb, ◌⊎◌, List, [], ◌∷◌, length, get_or, take, drop, codes, sym, refl, ap, ◌∙◌, subst, ap₂, inl, inr, arith}
+use Rattle.std.proofs.Common.{◌≡◌, ℕ, ◌/◌, ◌%◌, ◌<◌, ◌≤◌, Bool, true, false, cond, ◌||◌, leb, ◌⊎◌, List, [], ◌∷◌, length, take, drop, codes, sym, refl, ap, ◌∙◌, subst, inl, inr, arith}
 use Rattle.std.proofs.lemmas.Bool.{cases_eq}
 use Rattle.std.proofs.lemmas.Bool.Decides.{nat_tests}
 use Rattle.devices.specs.Meaning.{Meaning}
-use Rattle.layout.specs.Descriptor.{attribute, size, segment, segments, upto, extent, content}
-use Rattle.layout.specs.Directory.{Slot, entry, slot, slots}
-use Rattle.layout.specs.Identification.{total, root}
-use Rattle.layout.specs.Map.{map_bytes_of, map_sectors, bit_at, taken}
+use Rattle.layout.specs.Descriptor.{segment, segments, upto, extent, content}
+use Rattle.layout.specs.Directory.{entry, slot}
+use Rattle.layout.specs.Map.{map_bytes_of, bit_at, taken}
 use Rattle.layout.specs.Names.{VolumeName}
 use Rattle.layout.specs.Records.{record_at}
-use Rattle.layout.specs.declared.segment.Segment.{Segment}
-use Rattle.rules.specs.Nodes.{times, is_directory, named_by, children, Reached, at_root, by_slot, holds, Held, Parent, of_root, of_child}
-use Rattle.rules.specs.Rules.{sectors_of, map_of, root_at, Found, RuleA, Inside, RuleB, RuleC, RuleD, slot_count, RuleE, RuleF, Again, root_too, same_directory, two_directories, Twice, inside, shared, again, Owned, Wanted, Sound}
+use Rattle.rules.specs.Nodes.{times, is_directory, named_by, children, at_root, by_slot, holds, Held, Parent, of_root, of_child}
+use Rattle.rules.specs.Rules.{sectors_of, root_at, Found, RuleB, RuleC, RuleD, slot_count, RuleE, RuleF, Again, root_too, same_directory, two_directories, Twice, inside, shared, again, Owned, Wanted, Sound}
 use Rattle.rules.proofs.Times.{times-one, times_two, times_apart}
 use Rattle.volume.specs.Formatting.{GoodTo, Formatted}
 use Rattle.volume.specs.NewLayout.{NewLayout, RootReads}
-use Rattle.volume.specs.NewVolume.{root_of, slots_of, new_root, new_slots, taken_first}
+use Rattle.volume.specs.NewVolume.{root_of, slots_of, new_root, new_slots}
 use Rattle.volume.proofs.NewReads.{new_layout, one_sector, here_read, up_read, slots_long, first_len, rest_zero}
 
 cond_none : (b : Bool) → cond {A = List ℕ} b [] [] ≡ []

@@ -1,10 +1,10 @@
 -- A survey that ends at the root's descriptor.
-use Rattle.std.proofs.Common.{◌≡◌, ℕ, ◌<◌, ◌≤◌, Bool, true, false, List, length, Ok, Err, Result, sym, refl, ap, ◌∙◌, subst, inl, inr, arith}
+use Rattle.std.proofs.Common.{◌≡◌, ℕ, Bool, true, false, List, length, Ok, Err, Result, sym, refl, ap, ◌∙◌, subst, inl, inr, arith}
 use Rattle.devices.specs.Meaning.{Meaning, Fails}
 use Rattle.devices.specs.declared.device.Cause.{Cause}
 use Rattle.devices.specs.declared.device.Cause.TheVariants.{Length, Range, Bad}
 use Rattle.rules.specs.Nodes.{at_root}
-use Rattle.rules.specs.Rules.{root_at, sectors_of, RuleA, Inside, Wanted, Sound}
+use Rattle.rules.specs.Rules.{root_at, RuleA, Inside, Wanted, Sound}
 use Rattle.rules.proofs.Times.{hit_self}
 use Rattle.rules.proofs.Findings.{broken_unsound}
 use Rattle.volume.specs.Surveying.{Allocation, RootAnswer, SurveyAnswer, Passes}

@@ -1,7 +1,7 @@
 -- A new volume: what each of its first sectors holds.
-use Rattle.std.specs.Prelude.{ℕ, ◌+◌, ◌-◌, Bool, ◌||◌, List, [], ◌∷◌, ◌++◌, nat_le}
+use Rattle.std.specs.Prelude.{ℕ, ◌+◌, Bool, ◌||◌, List, [], ◌∷◌, nat_le}
 use Rattle.devices.specs.Meaning.{Meaning}
-use Rattle.layout.specs.Bytes.{Field, bytes, laid}
+use Rattle.layout.specs.Bytes.{bytes, laid}
 use Rattle.layout.specs.Descriptor.{segment_bytes}
 use Rattle.layout.specs.Directory.{slot_bytes, slot_name}
 use Rattle.layout.specs.Map.{map_bytes_of, map_sectors}

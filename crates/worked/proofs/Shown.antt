@@ -1,14 +1,13 @@
 -- The worked cases, one by one.
-use Rattle.std.proofs.Common.{◌≡◌, ℕ, zero, suc, ◌+◌, ◌*◌, ◌%◌, ◌<◌, ◌≤◌, Bool, true, false, cond, ◌||◌, leb, List, length, get_or, Ok, Err, Result, sym, refl, ap, ◌∙◌, ap₂, arith}
-use Rattle.devices.specs.Geometry.{Suits}
+use Rattle.std.proofs.Common.{◌≡◌, ℕ, ◌≤◌, Bool, false, ◌||◌, leb, List, length, get_or, Ok, Err, Result, refl, ap, ◌∙◌, arith}
 use Rattle.devices.specs.Meaning.{Meaning}
-use Rattle.devices.specs.Tray.{HeaderThere, TracksRight, SidesRight, StepRight, row_of, step_of, Denied, Inspected}
+use Rattle.devices.specs.Tray.{TracksRight, SidesRight, StepRight, row_of, step_of, Denied, Inspected}
 use Rattle.devices.specs.declared.geometry.Geometry.{Geometry}
 use Rattle.devices.specs.declared.inspection.TrayFault.{TrayFault}
 use Rattle.devices.specs.declared.inspection.TrayQuestion.{TrayQuestion}
 use Rattle.devices.specs.declared.inspection.TrayQuestion.TheVariants.{Header, Tracks, Sides, Sectors, Interleave, Spare, Length, State}
 use Rattle.layout.specs.Identification.{root}
-use Rattle.layout.specs.Map.{map_sectors, map_sector, packed, taken, clear_below}
+use Rattle.layout.specs.Map.{map_sectors, packed, taken, clear_below}
 use Rattle.layout.proofs.Bits.{packed_same}
 use Rattle.layout.proofs.Clears.{clear_same}
 use Rattle.volume.specs.Faults.{refusal_number}

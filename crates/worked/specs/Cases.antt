@@ -1,5 +1,5 @@
 -- Small volumes and trays, and what the definitions and the contracts of format and inspection say of them.
-use Rattle.std.specs.Prelude.{◌≡◌, ℕ, ◌<◌, ◌≤◌, false, List, length, Ok, Err, Result, slice_index}
+use Rattle.std.specs.Prelude.{◌≡◌, ℕ, ◌≤◌, false, List, length, Ok, Err, Result, slice_index}
 use Rattle.devices.specs.Geometry.{lsn_place}
 use Rattle.devices.specs.Meaning.{Meaning}
 use Rattle.devices.specs.Tray.{TracksRight, SidesRight, row_of, step_of, Inspected}

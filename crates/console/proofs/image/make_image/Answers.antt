@@ -1,4 +1,4 @@
-use Rattle.std.proofs.Common.{◌≡◌, ℕ, ◌*◌, ◌/◌, min, List, [], ◌∷◌, length, sym, ap, ◌∙◌, subst, arith}
+use Rattle.std.proofs.Common.{◌≡◌, ◌*◌, ◌/◌, length, sym, ap, ◌∙◌, subst, arith}
 use Rattle.devices.specs.Flat.{tail}
 use Rattle.devices.specs.Meaning.{Meaning}
 use Rattle.volume.specs.Formatting.{Lawful, Formatted}

@@ -1,4 +1,4 @@
-use Rattle.std.proofs.Common.{◌≡◌, ℕ, ◌+◌, ◌-◌, List, [], ◌∷◌, ◌++◌, get_or, drop, string_bytes, ap, ◌∙◌, arith}
+use Rattle.std.proofs.Common.{◌≡◌, ◌+◌, ◌-◌, [], ◌∷◌, ◌++◌, get_or, drop, string_bytes, ap, ◌∙◌, arith}
 use Rattle.layout.specs.Names.{name_of}
 use Rattle.console.proofs.Spelling.{letter_last, letter_more, letters_end}
 use Rattle.console.proofs.letters.stored_letters.Goals as goal

@@ -1,10 +1,8 @@
-use Rattle.std.proofs.Common.{◌≡◌, ℕ, ◌+◌, ◌-◌, ◌/◌, ◌<◌, ◌≤◌, min, List, ◌++◌, length, get_or, take, drop, sym, ap, ◌∙◌, subst, ap₂, arith, length-drop, length-take}
+use Rattle.std.proofs.Common.{◌≡◌, ◌+◌, ◌-◌, ◌/◌, ◌++◌, get_or, take, drop, sym, ap, ◌∙◌, subst, arith, length-drop, length-take}
 use Rattle.std.proofs.lemmas.Result.{err_from_is_err_and}
-use Rattle.layout.specs.Descriptor.{size}
 use Rattle.descriptors.proofs.Blocks.{nth_some}
 use Rattle.descriptors.proofs.Extents.{nth-none}
 use Rattle.devices.specs.Meaning.{Refuses}
-use Rattle.content.specs.Reading.{wanted}
 use Rattle.content.specs.Rows.{sectors, row}
 use Rattle.content.proofs.ReadSteps.{read_turn, put_same, got_content}
 use Rattle.content.proofs.read_bytes.read_at.Goals as goal

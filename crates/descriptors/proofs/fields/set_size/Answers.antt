@@ -1,4 +1,4 @@
-use Rattle.std.proofs.Common.{◌≡◌, ◌^◌, ◌<◌, length, ap, ◌∙◌, arith}
+use Rattle.std.proofs.Common.{◌≡◌, ap, ◌∙◌}
 use Rattle.layout.specs.Bytes.{bytes, over}
 use Rattle.layout.specs.Descriptor.{segment}
 use Rattle.descriptors.specs.Shown.{shown}

@@ -1,4 +1,4 @@
-use Rattle.std.proofs.Common.{◌≡◌, ℕ, ◌+◌, ◌*◌, get_or, ap, ◌∙◌, arith}
+use Rattle.std.proofs.Common.{◌≡◌, ◌+◌, ◌*◌, ap, ◌∙◌, arith}
 use Rattle.layout.specs.Bytes.{number}
 use Rattle.layout.specs.declared.segment.Segment.{Segment}
 use Rattle.layout.specs.Digits.{number_lt}

@@ -1,4 +1,4 @@
-use Rattle.std.proofs.Common.{◌≡◌, ap, ◌∙◌}
+use Rattle.std.proofs.Common.{ap, ◌∙◌}
 use Rattle.layout.specs.Records.{record_at}
 use Rattle.layout.proofs.Rows.{put_record, record_here}
 use Rattle.layout.proofs.records.put_nth.Goals as goal

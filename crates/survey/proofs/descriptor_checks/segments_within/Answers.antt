@@ -1,4 +1,4 @@
-use Rattle.std.proofs.Common.{◌≡◌, ℕ, ◌+◌, ◌-◌, ◌<◌, ◌≤◌, ap, arith}
+use Rattle.std.proofs.Common.{◌≡◌, ◌+◌, ◌-◌, ◌<◌, ap, arith}
 use Rattle.layout.specs.Descriptor.{segment}
 use Rattle.layout.specs.declared.segment.Segment.{Segment}
 use Rattle.survey.proofs.Within.{each_sector, entry_has}

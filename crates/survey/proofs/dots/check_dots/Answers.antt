@@ -1,5 +1,5 @@
-use Rattle.std.proofs.Common.{◌≡◌, codes, sym, refl, ap, ◌∙◌, arith}
-use Rattle.layout.specs.Directory.{entry, slot}
+use Rattle.std.proofs.Common.{sym, refl, ap, ◌∙◌, arith}
+use Rattle.layout.specs.Directory.{slot}
 use Rattle.survey.proofs.SlotReads.{slot_is, unread}
 use Rattle.survey.proofs.dots.check_dots.Goals as goal
 

@@ -1,4 +1,4 @@
-use Rattle.std.proofs.Common.{ℕ, ◌-◌, inr, arith}
+use Rattle.std.proofs.Common.{◌-◌, inr, arith}
 use Rattle.survey.proofs.Markings.{mark_more, mark_one}
 use Rattle.survey.proofs.Within.{upto_none, upto_in, upto_out}
 use Rattle.survey.proofs.marking.mark_run.Goals as goal

@@ -1,4 +1,4 @@
-use Rattle.std.proofs.Common.{◌≡◌, ℕ, ◌<◌, length, ap, ◌∙◌, arith}
+use Rattle.std.proofs.Common.{◌≡◌, ◌<◌, length, ap, ◌∙◌, arith}
 use Rattle.layout.specs.Descriptor.{extent}
 use Rattle.layout.specs.declared.segment.Segment.{Segment}
 use Rattle.survey.proofs.Extents.{rest, rest_end, more_held}

@@ -1,10 +1,8 @@
-use Rattle.std.proofs.Common.{◌≡◌, ℕ, ◌+◌, ◌*◌, ◌/◌, ◌%◌, ◌<◌, ◌≤◌, Bool, true, ◌⊎◌, List, length, get_or, Some, Ok, Err, sym, refl, ap, ◌∙◌, subst, inl, inr, arith}
-use Rattle.std.specs.List.{slice_get}
+use Rattle.std.proofs.Common.{◌≡◌, ℕ, ◌+◌, ◌/◌, ◌<◌, ◌≤◌, true, List, length, get_or, Ok, Err, sym, subst, inl, inr, arith}
 use Rattle.devices.specs.Meaning.{Meaning}
-use Rattle.layout.specs.Descriptor.{size, segments, extent, content}
-use Rattle.layout.specs.Records.{record_at}
+use Rattle.layout.specs.Descriptor.{size}
 use Rattle.rules.specs.Nodes.{times, is_directory}
-use Rattle.rules.specs.Rules.{SegmentsWithin, SizeRight, slot_bytes_at, slot_count}
+use Rattle.rules.specs.Rules.{slot_bytes_at, slot_count}
 use Rattle.rules.specs.declared.rule.Rule.{Rule}
 use Rattle.rules.specs.declared.rule.Rule.TheVariants as rule
 use Rattle.survey.specs.Scanning.{lsns, ScanBreaks, ScanAnswer}

@@ -1,4 +1,3 @@
-use Rattle.std.proofs.Common.{◌≤◌}
 use Rattle.survey.proofs.Scans.{Scan}
 use Rattle.survey.proofs.scan.scan_slots.Given as goal
 

@@ -1,6 +1,5 @@
-use Rattle.std.proofs.Common.{◌≡◌, ℕ, ◌+◌, ◌<◌, Bool, true, MatchBool, sym, arith}
-use Rattle.rules.specs.Rules.{StoredName}
-use Rattle.survey.proofs.Spelt.{Proper, proper_more, spelt_end}
+use Rattle.std.proofs.Common.{sym, arith}
+use Rattle.survey.proofs.Spelt.{proper_more, spelt_end}
 use Rattle.survey.proofs.slot_checks.is_stored_name.Goals as goal
 use Rattle.survey.proofs.slot_checks.is_stored_name.Goals.{then-letter-ne46, else-letter-ne46}
 

@@ -1,4 +1,4 @@
-use Rattle.std.proofs.Common.{◌≡◌, ℕ, ◌+◌, ◌-◌, length, get_or, take, set, sym, refl, ap, ◌∙◌, arith, below_more}
+use Rattle.std.proofs.Common.{◌≡◌, ◌+◌, length, get_or, take, set, sym, refl, ap, ◌∙◌, arith, below_more}
 use Rattle.std.proofs.lemmas.List.{length-take-le}
 use Rattle.layout.specs.Directory.{slot_name}
 use Rattle.survey.proofs.Tidied.{marked_back, filled_more, filled_name}

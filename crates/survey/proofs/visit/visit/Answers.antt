@@ -1,4 +1,4 @@
-use Rattle.std.proofs.Common.{◌≡◌, ℕ, true, List, sym, ap, ◌∙◌, subst}
+use Rattle.std.proofs.Common.{ℕ, List, sym, ap, ◌∙◌, subst}
 use Rattle.layout.specs.Descriptor.{segments, extent}
 use Rattle.rules.specs.Nodes.{is_directory}
 use Rattle.rules.specs.Rules.{SegmentsWithin, Tidy, SizeRight, Linked}

@@ -1,6 +1,6 @@
-use Rattle.std.proofs.Common.{◌≡◌, ℕ, ◌+◌, ◌-◌, ◌<◌, ◌≤◌, List, length, get_or, set, replicate, Ok, sym, refl, ap, ◌∙◌, subst, ap₂, arith, length-set, get_or-set_same}
+use Rattle.std.proofs.Common.{◌≡◌, ℕ, ◌+◌, ◌<◌, ◌≤◌, List, length, get_or, set, replicate, Ok, refl, ap, ◌∙◌, subst, ap₂, arith, length-set, get_or-set_same}
 use Rattle.devices.specs.Meaning.{Meaning}
-use Rattle.rules.specs.Rules.{sectors_of, map_of, root_at, Inside}
+use Rattle.rules.specs.Rules.{sectors_of, root_at, Inside}
 use Rattle.rules.specs.Walking.{system, hit}
 use Rattle.survey.specs.Names.{nobody}
 use Rattle.survey.specs.Walks.{WalkAnswer}

@@ -1,4 +1,4 @@
-use Rattle.std.proofs.Common.{◌≡◌, ℕ, ◌+◌, ◌-◌, ◌*◌, ◌≤◌, min, sym, ap, ◌∙◌, ap₂, arith, rules}
+use Rattle.std.proofs.Common.{◌≡◌, ◌+◌, ◌*◌, min, sym, ap, ◌∙◌, ap₂, arith, rules}
 use Rattle.layout.specs.Map.{bit_of, taken, clear_below}
 use Rattle.layout.proofs.Clears.{clear_sector}
 use Rattle.volume.proofs.count.clear_sectors.Goals as goal

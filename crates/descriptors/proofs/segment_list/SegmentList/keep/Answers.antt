@@ -1,4 +1,4 @@
-use Rattle.std.proofs.Common.{◌≡◌, List, ◌++◌, sym, ap, ◌∙◌, ap₂}
+use Rattle.std.proofs.Common.{◌≡◌, ◌++◌, sym, ap, ◌∙◌, ap₂}
 use Rattle.layout.specs.Descriptor.{extent}
 use Rattle.descriptors.specs.Cuts.{kept, freed}
 use Rattle.descriptors.specs.Lists.{listed}

@@ -1,4 +1,4 @@
-use Rattle.std.proofs.Common.{◌+◌, arith}
+use Rattle.std.proofs.Common.{arith}
 use Rattle.std.proofs.lemmas.List.{at_drop_all}
 use Rattle.paths.specs.Paths.{open_count}
 use Rattle.paths.proofs.PathLaws.{count_none, count_some}

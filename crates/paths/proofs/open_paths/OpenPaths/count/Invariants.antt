@@ -1,6 +1,4 @@
-use Rattle.std.proofs.Common.{◌≡◌, ℕ, ◌+◌, ◌<◌, ◌≤◌, get_or, drop, Some, None}
-use Rattle.paths.specs.declared.open_path.OpenPath.{OpenPath}
-use Rattle.paths.specs.declared.open_path.PathKind.TheVariants.{Update}
+use Rattle.std.proofs.Common.{◌≡◌, ◌+◌, ◌≤◌, drop}
 use Rattle.paths.specs.Paths.{open_count}
 use Rattle.paths.proofs.open_paths.OpenPaths.count.Given as goal
 

@@ -1,7 +1,5 @@
-use Rattle.std.proofs.Common.{◌≡◌, ℕ, ◌+◌, ◌<◌, ◌≤◌, get_or, drop, Some, None}
+use Rattle.std.proofs.Common.{◌≡◌, ℕ, ◌<◌, get_or, Some, None}
 use Rattle.paths.specs.declared.open_path.OpenPath.{OpenPath}
-use Rattle.paths.specs.declared.open_path.PathKind.TheVariants.{Update}
-use Rattle.paths.specs.Paths.{open_count}
 use Rattle.paths.proofs.open_paths.OpenPaths.place_of.Given as goal
 
 abbrev pub invariant-loop-k : goal.invariant-loop-k
