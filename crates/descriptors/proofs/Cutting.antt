@@ -1,7 +1,7 @@
 -- A segment list cut behind its first n sectors: what stays, what goes, and that this is all.
 use Rattle.std.proofs.Common.{◌≡◌, ℕ, zero, suc, ◌+◌, ◌-◌, ◌<◌, ◌≤◌, min, List, [], ◌∷◌, ◌++◌, length, get_or, take, drop, sym, refl, ap, ◌∙◌, ap₂, inl, inr, arith, length-append, ne_eqb}
 use lib.Seq.{take-nil, drop-nil}
-use Rattle.std.specs.List.{AllByRecursion as All}
+use Rattle.std.specs.List.{AllByRecursion}
 use Rattle.std.proofs.ByRecursion.{All-get_or}
 use Rattle.std.proofs.lemmas.List.{append_assoc, take-append-drop, drop_more}
 use Rattle.std.proofs.lemmas.Bool.{cases_eq, cases_lt, lt-ltb, le-ltb}
@@ -96,7 +96,7 @@ kept_storable n (s ∷ ss) all = elim (cases_eq n 0) [
 ]
 
 -- no run that is freed is empty
-pub freed_some : (n : ℕ) (ss : List Segment) → All (λ (s : Segment). 0 < s.len) (freed n ss)
+pub freed_some : (n : ℕ) (ss : List Segment) → AllByRecursion (λ (s : Segment). 0 < s.len) (freed n ss)
 freed_some n [] = tt
 freed_some n (s ∷ ss) = elim (cases_lt n s.len) [
   | inl lt ↦ rw (lt-ltb n s.len lt) (omega arith, freed_some 0 ss)

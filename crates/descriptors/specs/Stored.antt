@@ -1,6 +1,6 @@
 -- A segment list as a descriptor stores it.
 use Rattle.std.specs.Prelude.{ℕ, ◌-◌, ◌^◌, ◌<◌, List, ◌++◌, length, replicate}
-use Rattle.std.specs.List.{flat_map, AllByRecursion as All}
+use Rattle.std.specs.List.{flat_map, AllByRecursion}
 use Rattle.layout.specs.Descriptor.{segment_bytes}
 use Rattle.layout.specs.declared.segment.Segment.{Segment}
 use Rattle.descriptors.specs.Lists.{nowhere}
@@ -12,7 +12,7 @@ pub record Storable (s : Segment) : Type 0 where
   pub low : s.start < 2 ^ 24
 
 abbrev pub AllStorable : List Segment → Type 0
-AllStorable ss = All Storable ss
+AllStorable ss = AllByRecursion Storable ss
 
 -- the 48 entries: the segments, and then unused ones, all zero
 abbrev pub entries_of : List Segment → List Segment
