@@ -8,7 +8,7 @@
     volumes.py withhold IMAGE LSN,..        sets bits over sectors that nothing holds
     volumes.py patch IMAGE OUT OFFSET=HEX.. a copy with bytes changed
     volumes.py tray IMAGE TRAY --track S --interleave K [--sides 1] [--tracks N] [--bad LSN,..]
-    volumes.py counted IMAGE                the volume of crates/rbf/data/counted.img
+    volumes.py counted IMAGE                the volume of crates/damages/data/counted.img
     volumes.py damaged KIND IMAGE           the same, with one rule broken: twice (G), unset (H), names (E)
     volumes.py samples DIR                  counted.img, counted.tray and each damaged-KIND.img
     volumes.py crowded KIND IMAGE           T = 65,536: files, files-long, files-twice, directories or chain

@@ -9,9 +9,9 @@ use console::command::{FormatCommand, format_command};
 use console::image::{ImageFault, make_image};
 use console::refusal::{plain_words, refusal_line};
 use console::summary::summarize;
-use devices::device::Device;
 use files::call_fault::CallFault;
 use show::{print_record, print_summary};
+use std::process::ExitCode;
 use std::{env, fs};
 
 const USAGE: &str = "usage: rbf format IMAGE SECTORS NAME ALLOCATION
@@ -82,11 +82,10 @@ fn run(rt: &HostRuntime) -> anyhow::Result<Outcome> {
     Ok(Outcome::Refused)
 }
 
-// A refusal has been printed when it ends the program with status 1; any other failure is reported here.
-fn main(rt: HostRuntime) -> anyhow::Result<()> {
-    match run(&rt) {
-        Ok(Outcome::Done) => Ok(()),
-        Ok(Outcome::Refused) => Err(anyhow!("refused")),
-        Err(error) => Err(error),
+// A refusal has been printed, and ends the program with status 1; any other failure is reported by its error.
+fn main(rt: HostRuntime) -> anyhow::Result<ExitCode> {
+    match run(&rt)? {
+        Outcome::Done => Ok(ExitCode::SUCCESS),
+        Outcome::Refused => Ok(ExitCode::FAILURE),
     }
 }

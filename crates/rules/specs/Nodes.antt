@@ -23,15 +23,6 @@ named_by (entry name l ∷ ss) = l ∷ named_by ss
 abbrev pub children : (ℕ → List ℕ) → ℕ → List ℕ
 children sector l = cond (is_directory (sector l)) (named_by (drop 2 (slots (content sector (sector l))))) []
 
--- how many of some descriptors are directories', and how many are files'
-abbrev pub directories_in : (ℕ → List ℕ) → List ℕ → ℕ
-directories_in sector [] = 0
-directories_in sector (l ∷ ls) = cond {A = ℕ} (is_directory (sector l)) 1 0 + directories_in sector ls
-
-abbrev pub files_in : (ℕ → List ℕ) → List ℕ → ℕ
-files_in sector [] = 0
-files_in sector (l ∷ ls) = cond {A = ℕ} (is_directory (sector l)) 0 1 + files_in sector ls
-
 -- the root is reached, and so is each descriptor that a reached directory names
 pub data Reached (sector : ℕ → List ℕ) (root : ℕ) : ℕ → Type 0 where
   at_root : Reached sector root root

@@ -7,7 +7,7 @@ use Rattle.layout.specs.Identification.{total, map_bytes, cluster_size, root, se
 use Rattle.layout.specs.Map.{map_bytes_of, map_sectors, taken}
 use Rattle.layout.specs.Names.{name_byte, name_of}
 use Rattle.layout.specs.Records.{record_at}
-use Rattle.rules.specs.Nodes.{times, is_directory, children, directories_in, files_in, Reached, holds, Held, Parent}
+use Rattle.rules.specs.Nodes.{times, is_directory, children, Reached, holds, Held, Parent}
 use Rattle.rules.specs.declared.rule.Rule.{Rule}
 use Rattle.rules.specs.declared.rule.Rule.TheVariants as rule
 
@@ -135,13 +135,6 @@ pub record Sound (d : Meaning) : Type 0 where
 pub record Listed (d : Meaning) (ls : List ℕ) : Type 0 where
   pub all : (l : ℕ) → Found d l → times l ls ≡ 1
   pub only : (l : ℕ) → 0 < times l ls → Found d l
-
--- how many files and how many directories there are, the root among these
-pub record Census (d : Meaning) (files directories : ℕ) : Type 0 where
-  pub nodes : List ℕ
-  pub listed : Listed d nodes
-  pub files_are : files ≡ files_in d.sector nodes
-  pub directories_are : directories ≡ directories_in d.sector nodes
 
 -- a rule that is broken at a sector
 abbrev pub Broken : Meaning → Rule → ℕ → Type 0
