@@ -94,26 +94,26 @@ module _ (m₀ m m' : Meaning) (e bs : List ℕ) (p d : ℕ) (w : Written m₀ m
 
   -- a turn that wrote a part of the sector in which the byte p + d lies
   module _ (end lsn : ℕ) (part : List ℕ) (h : (p + d) / 256 < length e) (at : lsn ≡ get_or e ((p + d) / 256) 0) (le : d < end) (top : end ≤ length bs) (fits : end ≤ d + (256 - (p + d) % 256)) (got : part ≡ take (end - d) (drop d bs)) (done : PartDone m m' lsn ((p + d) % 256) part) where
-    long-before : length (take d bs) ≡ d
-    long-before = length-take-le d bs (omega arith)
+    long_before : length (take d bs) ≡ d
+    long_before = length-take-le d bs (omega arith)
 
     long_after : length (take end bs) ≡ end
     long_after = length-take-le end bs top
 
-    long-part : length part ≡ end - d
-    long-part = ap length got ∙ length-take-le (end - d) (drop d bs) (simp length-drop (omega arith))
+    long_part : length part ≡ end - d
+    long_part = ap length got ∙ length-take-le (end - d) (drop d bs) (simp length-drop (omega arith))
 
-    turn-kept : Kept (Beside e p (length (take end bs))) m₀ m'
-    turn-kept = (
+    turn_kept : Kept (Beside e p (length (take end bs))) m₀ m'
+    turn_kept = (
       done.kept.0 ∙ w.kept.0,
       λ j lt. done.kept.1 j (on_both j lt) ∙ w.kept.1 j lt,
       λ j lt out.
           done.kept.2 j (on_both j lt) (λ z. out (p + d) (omega arith) (omega (arith, long_after)) (z ∙ at))
-          ∙ w.kept.2 j lt (λ i lo hi. out i lo (omega (arith, long-before, long_after))),
+          ∙ w.kept.2 j lt (λ i lo hi. out i lo (omega (arith, long_before, long_after))),
     )
 
-    turn-whole : Whole m₀ → Whole m'
-    turn-whole all l lt = let low : l < m.count = omega (arith, done.kept.0) in elim (cases_eq l lsn) [
+    turn_whole : Whole m₀ → Whole m'
+    turn_whole all l lt = let low : l < m.count = omega (arith, done.kept.0) in elim (cases_eq l lsn) [
       | inl same ↦ ap (λ k. length (m'.sector k)) same ∙ done.long
       | inr other ↦ ap length (done.kept.2 l low other) ∙ w.whole all l low
     ]
@@ -126,12 +126,12 @@ module _ (m₀ m m' : Meaning) (e bs : List ℕ) (p d : ℕ) (w : Written m₀ m
         let long : length (row m₀ e) ≡ length e * 256 = length-row m₀.sector 256 e (λ i lt. whole (get_or e i 0) (within i lt)) in
         let one : row m' e ≡ over ((p + d) / 256 * 256 + (p + d) % 256) part (row m e) =
         put_block m.sector m'.sector 256 e ((p + d) / 256) ((p + d) % 256) part
-        (λ i lt. all (get_or e i 0) (on_both _ (within i lt))) h (omega (arith, long-part))
+        (λ i lt. all (get_or e i 0) (on_both _ (within i lt))) h (omega (arith, long_part))
         (ap m'.sector (sym at) ∙ done.put all ∙ ap (λ l. over ((p + d) % 256) part (m.sector l)) at)
         (λ j lt ne. done.kept.2 (get_or e j 0) (on_both _ (within j lt)) (λ z. ne (distinct j ((p + d) / 256) lt h (z ∙ at)))) in
         one ∙ ap₂ (λ q xs. over q part xs) cut (w.is whole within distinct)
-        ∙ over_over p (p + d) (take d bs) part (row m₀ e) (omega (arith, long-before)) (omega (arith, long))
+        ∙ over_over p (p + d) (take d bs) part (row m₀ e) (omega (arith, long_before)) (omega (arith, long))
         ∙ ap (λ l. over p l (row m₀ e)) (ap (λ l. take d bs ++ l) got ∙ sym (take-add d (end - d) bs) ∙ ap (λ k. take k bs) s)
 
-    pub write-turn : Written m₀ m' e p (take end bs)
-    write-turn = record { kept = turn-kept; whole = turn-whole; is = turn_is }
+    pub write_turn : Written m₀ m' e p (take end bs)
+    write_turn = record { kept = turn_kept; whole = turn_whole; is = turn_is }

@@ -11,7 +11,7 @@ use Rattle.descriptors.specs.Shown.{shown}
 use Rattle.descriptors.specs.Stored.{AllStorable, stored}
 use Rattle.descriptors.proofs.Laid.{part_below, part_in}
 use Rattle.descriptors.proofs.Showings.{shown_by}
-use Rattle.descriptors.proofs.Storing.{stored_length, segments-are}
+use Rattle.descriptors.proofs.Storing.{stored_length, segments_are}
 
 -- a number of one byte
 one_byte : (n : ℕ) → n < 256 → n ∷ [] ≡ bytes 1 n
@@ -115,4 +115,4 @@ module _ (h : Heading) (n : ℕ) (ss : List Segment) (byte : h.attribute < 256) 
       ∙ number_over 9 (bytes 4 n) d4 f5 4 n refl (omega arith))
       (part_below 16 s d6 f7 13 3 (omega arith)
       ∙ part_in 13 h.created d5 f6 3 three)
-      (segments-are ss few all d6 l6)
+      (segments_are ss few all d6 l6)

@@ -139,5 +139,5 @@ module _ (ss : List Segment) (k : ℕ) (s : Segment) (lt : k < length ss) (is : 
         ∙ ap (λ (n : ℕ). done ++ record { start = s.start + left; len = s.len - left } ∷ freed n (drop (k + 1) ss)) none
         ∙ ap (λ (xs : List Segment). done ++ xs) (sym (ap (freed left) rest_is ∙ freed_part left s (drop (k + 1) ss) low))
 
-    pub past-step : s.len ≤ left → done ++ freed (left - s.len) (drop (k + 1) ss) ≡ done ++ freed left (drop k ss)
-    past-step high = ap (λ (xs : List Segment). done ++ xs) (sym (ap (freed left) rest_is ∙ freed_past left s (drop (k + 1) ss) high))
+    pub past_step : s.len ≤ left → done ++ freed (left - s.len) (drop (k + 1) ss) ≡ done ++ freed left (drop k ss)
+    past_step high = ap (λ (xs : List Segment). done ++ xs) (sym (ap (freed left) rest_is ∙ freed_past left s (drop (k + 1) ss) high))

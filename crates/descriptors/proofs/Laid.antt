@@ -47,8 +47,8 @@ module _ (p : ℕ) (bs xs : List ℕ) (fits : p + length bs ≤ length xs) where
 
   -- laid before the segment list, it leaves every entry
   module _ (low : p + length bs ≤ 16) where
-    pub entry-above : (k : ℕ) → segment (over p bs xs) k ≡ segment xs k
-    entry-above k = entry_same k _ _ (λ i lt. over_above p bs xs fits (16 + k * 5 + i) (omega arith))
+    pub entry_above : (k : ℕ) → segment (over p bs xs) k ≡ segment xs k
+    entry_above k = entry_same k _ _ (λ i lt. over_above p bs xs fits (16 + k * 5 + i) (omega arith))
 
-    pub segments-above : segments (over p bs xs) ≡ segments xs
-    segments-above = used_same 48 0 _ _ (λ j lo hi. entry-above j)
+    pub segments_above : segments (over p bs xs) ≡ segments xs
+    segments_above = used_same 48 0 _ _ (λ j lo hi. entry_above j)

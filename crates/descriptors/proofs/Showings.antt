@@ -6,8 +6,8 @@ use Rattle.layout.specs.declared.segment.Segment.{Segment}
 use Rattle.layout.specs.Digits.{length-bytes, number_over, number_below, number_above}
 use Rattle.descriptors.specs.Shown.{Shown, shown, with_size, with_date, with_segments, SameEntries}
 use Rattle.descriptors.specs.Stored.{AllStorable, stored}
-use Rattle.descriptors.proofs.Laid.{part_below, part_above, part_in, entry-above, segments-above}
-use Rattle.descriptors.proofs.Storing.{stored_length, segments-are}
+use Rattle.descriptors.proofs.Laid.{part_below, part_above, part_in, entry_above, segments_above}
+use Rattle.descriptors.proofs.Storing.{stored_length, segments_are}
 
 -- fields that are equal one by one
 abbrev make : ℕ → ℕ → List ℕ → ℕ → ℕ → List ℕ → List Segment → Shown
@@ -30,8 +30,8 @@ module _ (xs : List ℕ) (wide : length xs ≡ 256) where
     size_fits : 9 + length (bytes 4 n) ≤ length xs
     size_fits = omega (arith, length-bytes 4 n)
 
-    pub size-shown : shown (over 9 (bytes 4 n) xs) ≡ with_size n (shown xs)
-    size-shown =
+    pub size_shown : shown (over 9 (bytes 4 n) xs) ≡ with_size n (shown xs)
+    size_shown =
         let fits = size_fits in
         let bs = bytes 4 n in
         let after = length-bytes 4 n in
@@ -42,19 +42,19 @@ module _ (xs : List ℕ) (wide : length xs ≡ 256) where
         (number_below 9 bs xs fits 8 1 (omega arith))
         (number_over 9 bs xs fits 4 n refl (omega arith))
         (part_above 9 bs xs fits 13 3 (omega arith))
-        (segments-above 9 bs xs fits (omega arith))
+        (segments_above 9 bs xs fits (omega arith))
 
-    pub size-entries : SameEntries xs (over 9 (bytes 4 n) xs)
-    size-entries k lt = entry-above 9 (bytes 4 n) xs size_fits (omega (arith, length-bytes 4 n)) k
+    pub size_entries : SameEntries xs (over 9 (bytes 4 n) xs)
+    size_entries k lt = entry_above 9 (bytes 4 n) xs size_fits (omega (arith, length-bytes 4 n)) k
 
   -- the date of the last change
   module _ (date : List ℕ) (five : length date ≡ 5) where
-    date-fits : 3 + length date ≤ length xs
-    date-fits = omega arith
+    date_fits : 3 + length date ≤ length xs
+    date_fits = omega arith
 
-    pub date-shown : shown (over 3 date xs) ≡ with_date date (shown xs)
-    date-shown =
-        let fits = date-fits in
+    pub date_shown : shown (over 3 date xs) ≡ with_date date (shown xs)
+    date_shown =
+        let fits = date_fits in
         shown_by (over 3 date xs) (with_date date (shown xs))
         (number_below 3 date xs fits 0 1 (omega arith))
         (number_below 3 date xs fits 1 2 (omega arith))
@@ -62,10 +62,10 @@ module _ (xs : List ℕ) (wide : length xs ≡ 256) where
         (number_above 3 date xs fits 8 1 (omega arith))
         (number_above 3 date xs fits 9 4 (omega arith))
         (part_above 3 date xs fits 13 3 (omega arith))
-        (segments-above 3 date xs fits (omega arith))
+        (segments_above 3 date xs fits (omega arith))
 
-    pub date-entries : SameEntries xs (over 3 date xs)
-    date-entries k lt = entry-above 3 date xs date-fits (omega arith) k
+    pub date_entries : SameEntries xs (over 3 date xs)
+    date_entries k lt = entry_above 3 date xs date_fits (omega arith) k
 
   -- the segments
   module _ (ss : List Segment) (few : length ss ≤ 48) (all : AllStorable ss) where
@@ -80,4 +80,4 @@ module _ (xs : List ℕ) (wide : length xs ≡ 256) where
         (number_below 16 bs xs fits 8 1 (omega arith))
         (number_below 16 bs xs fits 9 4 (omega arith))
         (part_below 16 bs xs fits 13 3 (omega arith))
-        (segments-are ss few all xs wide)
+        (segments_are ss few all xs wide)

@@ -74,8 +74,8 @@ module _ (ss : List Segment) (few : length ss ≤ 48) where
 
   -- an entry fits its bytes
   module _ (all : AllStorable ss) where
-    pub fits-at : (k : ℕ) → ((get_or ss k nowhere).start < 2 ^ 24) × ((get_or ss k nowhere).len < 2 ^ 16)
-    fits-at k = elim (cases_lt k (length ss)) [
+    pub fits_at : (k : ℕ) → ((get_or ss k nowhere).start < 2 ^ 24) × ((get_or ss k nowhere).len < 2 ^ 16)
+    fits_at k = elim (cases_lt k (length ss)) [
       | inl inside ↦ let s = All-get_or Storable ss k nowhere inside all in (s.low, s.short)
       | inr past ↦ let e = get_or_past ss k nowhere past in (omega (arith, ap (λ (s : Segment). s.start) e), omega (arith, ap (λ (s : Segment). s.len) e))
     ]
@@ -95,13 +95,13 @@ module _ (ss : List Segment) (few : length ss ≤ 48) where
           ∙ over_in 16 (stored ss) xs fits (k * 5 + i) (omega (arith, stored_length))
           ∙ byte_joined (entries_of ss) k i (omega (arith, entries_length)) five
           ∙ ap (λ (g : Segment). get_or (segment_bytes g) i 0) (entries_at k lt))
-          ∙ segment_back s (fits-at k).0 (fits-at k).1
+          ∙ segment_back s (fits_at k).0 (fits_at k).1
 
-      pub segments-are : segments (over 16 (stored ss) xs) ≡ ss
-      segments-are = used_are ss 48 0 _ all few (λ j lt. ap (segment (over 16 (stored ss) xs)) (omega arith) ∙ entry_is j lt)
+      pub segments_are : segments (over 16 (stored ss) xs) ≡ ss
+      segments_are = used_are ss 48 0 _ all few (λ j lt. ap (segment (over 16 (stored ss) xs)) (omega arith) ∙ entry_is j lt)
 
-      pub stored-tidy : TidyEntries (over 16 (stored ss) xs)
-      stored-tidy j k le lt none =
+      pub stored_tidy : TidyEntries (over 16 (stored ss) xs)
+      stored_tidy j k le lt none =
           let gone : length ss ≤ j = elim (cases_lt j (length ss)) [
             | inl inside ↦ absurd (omega (arith, (All-get_or Storable ss j nowhere inside all).some, ap (λ (g : Segment). g.len) (entry_is j (omega arith))))
             | inr past ↦ past

@@ -18,11 +18,11 @@ impl Record for DirectoryEntry {
 
     ghost lawful = { λ s. (length s.name ≡ 28) × (s.lsn < 2 ^ 24) };
 
-    ghost valueOf = { stored_slot };
+    ghost value_of = { stored_slot };
 
-    ghost bytesOf = { λ s. slot_bytes s.name s.lsn };
+    ghost bytes_of = { λ s. slot_bytes s.name s.lsn };
 
-    ghost isUnused = { λ xs. (slice_index xs 0 == 0) };
+    ghost is_unused = { λ xs. (slice_index xs 0 == 0) };
 
     ghost some = { Prim.search rules };
 

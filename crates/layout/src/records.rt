@@ -14,11 +14,11 @@ pub trait Record {
     // the values that a record can hold
     ghost lawful: { Self.Value → Type 0 };
 
-    ghost valueOf: { List ℕ → Self.Value };
+    ghost value_of: { List ℕ → Self.Value };
 
-    ghost bytesOf: { Self.Value → List ℕ };
+    ghost bytes_of: { Self.Value → List ℕ };
 
-    ghost isUnused: { List ℕ → Bool };
+    ghost is_unused: { List ℕ → Bool };
 
     // `Self::WIDTH`, for code that is written for every kind.
     fn bytes_wide() -> usize
@@ -26,28 +26,28 @@ pub trait Record {
 
     fn unused(bytes: &[u8]) -> bool
         requires { length bytes.now ≡ width }
-        ensures { result ≡ isUnused bytes.now };
+        ensures { result ≡ is_unused bytes.now };
 
     fn read(bytes: &[u8]) -> Self::Value
         requires { length bytes.now ≡ width }
-        ensures { result ≡ valueOf bytes.now };
+        ensures { result ≡ value_of bytes.now };
 
     fn write(value: &Self::Value, bytes: &mut [u8])
         requires { (length bytes.old ≡ width) × (lawful value.now) }
-        ensures { bytes.new ≡ bytesOf value.now };
+        ensures { bytes.new ≡ bytes_of value.now };
 
     ghost some: { 0 < width };
 
-    ghost wide: { (v : Self.Value) → lawful v → length (bytesOf v) ≡ width };
+    ghost wide: { (v : Self.Value) → lawful v → length (bytes_of v) ≡ width };
 
     // what was written is read back
-    ghost back: { (v : Self.Value) → lawful v → valueOf (bytesOf v) ≡ v };
+    ghost back: { (v : Self.Value) → lawful v → value_of (bytes_of v) ≡ v };
 }
 
 // The k-th record of a table.
 pub fn nth<R: Record>(table: &[u8], k: usize) -> R::Value
     requires { k * R.Record.width + R.Record.width ≤ length table.now }
-    ensures { result ≡ R.Record.valueOf (record_at R.Record.width k table.now) }
+    ensures { result ≡ R.Record.value_of (record_at R.Record.width k table.now) }
 {
     let wide = R::bytes_wide();
     let at = k * wide;
@@ -57,8 +57,8 @@ pub fn nth<R: Record>(table: &[u8], k: usize) -> R::Value
 // Writes the k-th record of a table.
 pub fn put_nth<R: Record>(table: &mut [u8], k: usize, value: &R::Value)
     requires { (k * R.Record.width + R.Record.width ≤ length table.old) × (R.Record.lawful value.now) }
-    ensures laid { table.new ≡ over (k * R.Record.width) (R.Record.bytesOf value.now) table.old }
-    ensures back { R.Record.valueOf (record_at R.Record.width k table.new) ≡ value.now }
+    ensures laid { table.new ≡ over (k * R.Record.width) (R.Record.bytes_of value.now) table.old }
+    ensures back { R.Record.value_of (record_at R.Record.width k table.new) ≡ value.now }
 {
     let wide = R::bytes_wide();
     let at = k * wide;
@@ -67,7 +67,7 @@ pub fn put_nth<R: Record>(table: &mut [u8], k: usize, value: &R::Value)
 
 // The first unused record of a table, if it has one.
 pub fn first_unused<R: Record>(table: &[u8]) -> Option<usize>
-    ensures { FirstUnused R.Record.width R.Record.isUnused table.now result }
+    ensures { FirstUnused R.Record.width R.Record.is_unused table.now result }
 {
     let wide = R::bytes_wide();
     for k in 0..table.len() / wide {

@@ -19,11 +19,11 @@ impl Record for SegmentEntry {
 
     ghost lawful = { λ s. (s.start < 2 ^ 24) × (s.len < 2 ^ 16) };
 
-    ghost valueOf = { segment_of };
+    ghost value_of = { segment_of };
 
-    ghost bytesOf = { segment_bytes };
+    ghost bytes_of = { segment_bytes };
 
-    ghost isUnused = { λ xs. ((segment_of xs).len == 0) };
+    ghost is_unused = { λ xs. ((segment_of xs).len == 0) };
 
     ghost some = { Prim.search rules };
 

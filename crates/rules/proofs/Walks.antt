@@ -62,15 +62,15 @@ module _ (d : Meaning) (vs ls : List ℕ) (marks : ℕ → ℕ) (w : Walking d v
     reached = w.found l (omega arith)
 
     -- a sector of a segment, which was marked or is a child's
-    segment-clash : 0 < times k (extent (segments (d.sector l))) → Found d k → Twice d k
-    segment-clash seg r = elim (hit_is k l) [
+    segment_clash : 0 < times k (extent (segments (d.sector l))) → Found d k → Twice d k
+    segment_clash seg r = elim (hit_is k l) [
       | inl h ↦ inside l reached (omega (arith, h.1))
       | inr h ↦ shared l k (λ e. h.0 (sym e)) reached r (omega arith) (holds_self d.sector k)
     ]
 
     -- a sector of what was visited
-    held-clash : 0 < times k (flat_map (holds d.sector) vs) → 0 < times k (extent (segments (d.sector l))) + times k (children d.sector l) → Twice d k
-    held-clash held new =
+    held_clash : 0 < times k (flat_map (holds d.sector) vs) → 0 < times k (extent (segments (d.sector l))) + times k (children d.sector l) → Twice d k
+    held_clash held new =
         let v = joined_some k (holds d.sector) vs held in
         elim (cases_lt 0 (times k (children d.sector l))) [
           | inl child ↦
@@ -83,21 +83,21 @@ module _ (d : Meaning) (vs ls : List ℕ) (marks : ℕ → ℕ) (w : Walking d v
         ]
 
     -- a descriptor that waits
-    waiting-clash : 0 < times k ls → 0 < times k (extent (segments (d.sector l))) + times k (children d.sector l) → Twice d k
-    waiting-clash too new =
+    waiting_clash : 0 < times k ls → 0 < times k (extent (segments (d.sector l))) + times k (children d.sector l) → Twice d k
+    waiting_clash too new =
         let r : Found d k = w.found k (omega arith) in
         elim (cases_lt 0 (times k (children d.sector l))) [
           | inl child ↦ again k r (named_again l k waits (omega arith) child) (holds_self d.sector k)
-          | inr le ↦ segment-clash (omega arith) r
+          | inr le ↦ segment_clash (omega arith) r
         ]
 
     -- a sector that is new twice
-    new-clash : 2 ≤ times k (extent (segments (d.sector l))) + times k (children d.sector l) → Twice d k
-    new-clash two = elim (cases_lt 0 (times k (children d.sector l))) [
+    new_clash : 2 ≤ times k (extent (segments (d.sector l))) + times k (children d.sector l) → Twice d k
+    new_clash two = elim (cases_lt 0 (times k (children d.sector l))) [
       | inl child ↦
           let r : Found d k = by_slot l k reached child in
           elim (cases_lt 0 (times k (extent (segments (d.sector l))))) [
-            | inl seg ↦ segment-clash seg r
+            | inl seg ↦ segment_clash seg r
             | inr le ↦ again k r (same_directory l reached (omega arith)) (holds_self d.sector k)
           ]
       | inr le ↦ inside l reached (omega arith)
@@ -150,10 +150,10 @@ walk_clashes d vs ls l marks w waits k ins two =
     let few = w.small k ins.1 in
     let free : system (map_of d) k ≡ 0 = elim (system_is (map_of d) k) [ inl s ↦ absurd (omega (arith, s.0, ins.0)) | inr s ↦ s.1 ] in
     elim (cases_lt 0 (times k (flat_map (holds d.sector) vs))) [
-      | inl held ↦ held-clash d vs ls marks w l k waits held (omega arith)
+      | inl held ↦ held_clash d vs ls marks w l k waits held (omega arith)
       | inr none ↦ elim (cases_lt 0 (times k ls)) [
-        | inl too ↦ waiting-clash d vs ls marks w l k waits too (omega arith)
-        | inr le ↦ new-clash d vs ls marks w l k waits (omega arith)
+        | inl too ↦ waiting_clash d vs ls marks w l k waits too (omega arith)
+        | inr le ↦ new_clash d vs ls marks w l k waits (omega arith)
       ]
     ]
 

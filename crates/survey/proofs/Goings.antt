@@ -91,35 +91,35 @@ module _ (d : Meaning) (m₀ m : List ℕ) (ws : List Waiting) (turn base : ℕ)
           slots_right = v.slots_right;
         }
 
-    all-wait : (c : ℕ) → times c (lsns n ws') ≡ times c (lsns base ws) + times c (children d.sector l)
-    all-wait c = ap (times c) v.lsns_are ∙ times-++ c (lsns base ws) (children d.sector l)
+    all_wait : (c : ℕ) → times c (lsns n ws') ≡ times c (lsns base ws) + times c (children d.sector l)
+    all_wait c = ap (times c) v.lsns_are ∙ times-++ c (lsns base ws) (children d.sector l)
 
     how_many : n ≡ base + length (children d.sector l)
     how_many =
         sym (length-lsns n ws' v.most) ∙ ap length v.lsns_are ∙ length-append (lsns base ws) (children d.sector l)
         ∙ ap (λ k. k + length (children d.sector l)) (length-lsns base ws (omega (arith, fits)))
 
-    new-child : (i : ℕ) → base ≤ i → i < n → 0 < times (get_or ws' i nobody).lsn (children d.sector l)
-    new-child i le lt =
+    new_child : (i : ℕ) → base ≤ i → i < n → 0 < times (get_or ws' i nobody).lsn (children d.sector l)
+    new_child i le lt =
         let at : (get_or ws' i nobody).lsn ≡ get_or (children d.sector l) (i - base) 0 =
         sym (lsns_at n i ws' v.most lt) ∙ ap (λ xs. get_or xs i 0) v.lsns_are ∙ get_or-append_right (lsns base ws) (children d.sector l) base i 0 (length-lsns base ws (omega (arith, fits))) le in
         omega (arith, get_or-times (children d.sector l) (i - base) (omega (arith, how_many)), ap (λ c. times c (children d.sector l)) at)
 
-    old-same : (i : ℕ) → i < base → get_or ws' i nobody ≡ get_or ws i nobody
-    old-same i lt = sym (get_or-take base ws' i nobody lt) ∙ ap (λ (xs : List Waiting). get_or xs i nobody) v.old ∙ get_or-take base ws i nobody lt
+    old_same : (i : ℕ) → i < base → get_or ws' i nobody ≡ get_or ws i nobody
+    old_same i lt = sym (get_or-take base ws' i nobody lt) ∙ ap (λ (xs : List Waiting). get_or xs i nobody) v.old ∙ get_or-take base ws i nobody lt
 
     pub going_on : Going d m₀ m' ws' (turn + 1) n
     going_on =
         record {
           vs = l ∷ s.vs;
           long = omega (arith, s.long);
-          walking = walk_turns d s.vs (lsns (base + 1) ws) (lsns n ws') l (λ k. get_or m k 0) (λ k. get_or m' k 0) s.walking waits seen (λ k. omega (arith, all-wait k, one_more k)) (λ k lt. v.marked k) v.small;
+          walking = walk_turns d s.vs (lsns (base + 1) ws) (lsns n ws') l (λ k. get_or m k 0) (λ k. get_or m' k 0) s.walking waits seen (λ k. omega (arith, all_wait k, one_more k)) (λ k lt. v.marked k) v.small;
           parents = λ i lt. elim (cases_lt i base) [
             | inl low ↦
-                let e = old-same i low in
+                let e = old_same i low in
                 subst (λ (w : Waiting). Parent d.sector (root_at d) w.parent w.lsn) (sym e) (s.parents i (omega arith))
             | inr high ↦
-                subst (λ (q : ℕ). Parent d.sector (root_at d) q (get_or ws' i nobody).lsn) (sym (v.parents i high lt)) (of_child l (get_or ws' i nobody).lsn found (new-child i high lt))
+                subst (λ (q : ℕ). Parent d.sector (root_at d) q (get_or ws' i nobody).lsn) (sym (v.parents i high lt)) (of_child l (get_or ws' i nobody).lsn found (new_child i high lt))
           ];
           most = v.most;
           later = λ k ge.

@@ -14,14 +14,14 @@ pub prepare_more : (low root n v : ℕ) (m₀ m : List ℕ) → n < length m →
 prepare_more low root n v m₀ m lt is p =
     record {
       set_up = λ k less. elim (cases_eq k n) [
-        | inl e ↦ ap (λ i. get_or (set m n v) i 0) e ∙ get_or-set_same m n v 0 lt ∙ is ∙ ap (λ i. system low i + hit root i) (sym-of k n e)
+        | inl e ↦ ap (λ i. get_or (set m n v) i 0) e ∙ get_or-set_same m n v 0 lt ∙ is ∙ ap (λ i. system low i + hit root i) (sym_of k n e)
         | inr ne ↦ get_or-set_other m n k v 0 ne ∙ p.set_up k (omega arith)
       ];
       later = λ k le. get_or-set_other m n k v 0 (λ e. omega arith) ∙ p.later k (omega arith);
     }
   where
-    sym-of : (a b : ℕ) → a ≡ b → b ≡ a
-    sym-of a b e = omega arith
+    sym_of : (a b : ℕ) → a ≡ b → b ≡ a
+    sym_of a b e = omega arith
 
 pub marked_one : (low root k : ℕ) → low < root → (k ≤ low) ⊎ (k ≡ root) → 1 ≡ system low k + hit root k
 marked_one low root k behind (inl le) = elim (system_is low k) [

@@ -95,8 +95,8 @@ module _ (d : Meaning) (l low high base : ℕ) (m₀ : List ℕ) (ws₀ : List W
 
   module _ (k count : ℕ) (m : List ℕ) (ws : List Waiting) (two : 2 ≤ k) (s : Scan d l low high base m₀ ws₀ k count m ws) where
     -- an empty slot
-    pub scan-passes : (m' : List ℕ) (ws' : List Waiting) → Passed (slot_bytes_at d l k) m m' ws ws' → Scan d l low high base m₀ ws₀ (k + 1) count m' ws'
-    scan-passes m' ws' p =
+    pub scan_passes : (m' : List ℕ) (ws' : List Waiting) → Passed (slot_bytes_at d l k) m m' ws ws' → Scan d l low high base m₀ ws₀ (k + 1) count m' ws'
+    scan_passes m' ws' p =
         let e = so_far_empty d l k two p.unused in
         let q = p.same_waiting in
         record {
@@ -110,21 +110,21 @@ module _ (d : Meaning) (l low high base : ℕ) (m₀ : List ℕ) (ws₀ : List W
           inside = λ c pos. s.inside c (omega (arith, pos, ap (times c) e));
           rights =
               record {
-                right = λ j low-j lt used. s.rights.right j low-j (not-here j lt used p) used;
-                distinct = λ i j low-i less lt ui uj. s.rights.distinct i j low-i less (not-here j lt uj p) ui uj;
+                right = λ j low-j lt used. s.rights.right j low-j (not_here j lt used p) used;
+                distinct = λ i j low-i less lt ui uj. s.rights.distinct i j low-i less (not_here j lt uj p) ui uj;
               };
-          seen = λ j low-j lt used. subst (λ (x : List Waiting). Known x base count (tidied (slot_bytes_at d l j))) (sym q) (s.seen j low-j (not-here j lt used p) used);
+          seen = λ j low-j lt used. subst (λ (x : List Waiting). Known x base count (tidied (slot_bytes_at d l j))) (sym q) (s.seen j low-j (not_here j lt used p) used);
           whose = λ i le lt.
               let w = s.whose i le lt in
               (w.0, w.1, omega (arith, w.2), w.3, ap (λ (x : List Waiting). (get_or x i nobody).name) q ∙ w.4);
         }
       where
-        not-here : (j : ℕ) → j < k + 1 → (Empty (slot_bytes_at d l j) → ⊥) → Passed (slot_bytes_at d l k) m m' ws ws' → j < k
-        not-here j lt used p = elim (cases_eq j k) [ inl e ↦ absurd (used (ap (λ i. get_or (slot_bytes_at d l i) 0 0) e ∙ p.unused)) | inr ne ↦ omega arith ]
+        not_here : (j : ℕ) → j < k + 1 → (Empty (slot_bytes_at d l j) → ⊥) → Passed (slot_bytes_at d l k) m m' ws ws' → j < k
+        not_here j lt used p = elim (cases_eq j k) [ inl e ↦ absurd (used (ap (λ i. get_or (slot_bytes_at d l i) 0 0) e ∙ p.unused)) | inr ne ↦ omega arith ]
 
     -- a used slot
-    pub scan-takes : (m' : List ℕ) (ws' : List Waiting) → count < length ws → high ≤ length m → Taken (slot_bytes_at d l k) l low high base count m m' ws ws' → Scan d l low high base m₀ ws₀ (k + 1) (count + 1) m' ws'
-    scan-takes m' ws' fits long t =
+    pub scan_takes : (m' : List ℕ) (ws' : List Waiting) → count < length ws → high ≤ length m → Taken (slot_bytes_at d l k) l low high base count m m' ws ws' → Scan d l low high base m₀ ws₀ (k + 1) (count + 1) m' ws'
+    scan_takes m' ws' fits long t =
         let xs = slot_bytes_at d l k in
         let c₀ = names xs in
         let w : Waiting = record { lsn = c₀; parent = l; name = tidied xs } in
@@ -185,8 +185,8 @@ module _ (d : Meaning) (l low high base : ℕ) (m₀ : List ℕ) (ws₀ : List W
         }
 
     -- there is room for one more, while a sector is not marked
-    pub scan-room : ((c : ℕ) → times c (lsns base ws₀) ≤ get_or m₀ c 0) → ((c : ℕ) → 0 < times c (lsns base ws₀) → c < high) → high ≤ length ws → (c : ℕ) → c < high → get_or m c 0 ≡ 0 → count < length ws
-    scan-room listed low_ones fits c lt clear =
+    pub scan_room : ((c : ℕ) → times c (lsns base ws₀) ≤ get_or m₀ c 0) → ((c : ℕ) → 0 < times c (lsns base ws₀) → c < high) → high ≤ length ws → (c : ℕ) → c < high → get_or m c 0 ≡ 0 → count < length ws
+    scan_room listed low_ones fits c lt clear =
         let all : (x : ℕ) → times x (lsns count ws) ≡ times x (lsns base ws₀) + times x (so_far d l k) = λ x. ap (times x) s.lsns_are ∙ times-++ x (lsns base ws₀) (so_far d l k) in
         let below : (x : ℕ) → 0 < times x (lsns count ws) → x < high = λ x pos. elim (cases_lt 0 (times x (lsns base ws₀))) [ inl some ↦ low_ones x some | inr none ↦ (s.inside x (omega (arith, all x))).1 ] in
         let once : (x : ℕ) → times x (c ∷ lsns count ws) ≤ 1 = λ x. elim (cases_lt 0 (times x (lsns count ws))) [

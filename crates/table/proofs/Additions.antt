@@ -15,8 +15,8 @@ use Rattle.table.specs.Updates.{Added}
 use Rattle.table.proofs.Leaves.{Leaf, leaf_ups, leaf_present, leaf_one, leaf_names, leaf_others, leaf_more, leaf_balance}
 use Rattle.table.proofs.Occupied.{occupied_small, occupied_below}
 use Rattle.table.proofs.Reaches.{reach_more}
-use Rattle.table.proofs.Spaces.{of_entry, below, held-taken, clear_none, named-there, root-there}
-use Rattle.table.proofs.Updating.{update-stands}
+use Rattle.table.proofs.Spaces.{of_entry, below, held_taken, clear_none, named_there, root_there}
+use Rattle.table.proofs.Updating.{update_stands}
 
 module _ (d d' : Meaning) (w : ℕ → ℕ) (t t' : Table) (p : ℕ) (e e' : Entry) (x : ℕ) (f : Entry) (s : Stands d w t) (c : Added d d' t t' p e e' x f) where
   free : t x ≡ None
@@ -39,18 +39,18 @@ module _ (d d' : Meaning) (w : ℕ → ℕ) (t t' : Table) (p : ℕ) (e e' : Ent
   low_x =
       let zero : d'.sector 0 ≡ d.sector 0 = c.kept.2 0 (omega (arith, s.rule_a.least, s.rule_a.fits)) (inl refl) in
       let not-held : times x (held p (t p)) ≡ 0 = elim (cases_lt 0 (times x (held p (t p)))) [
-        | inl pos ↦ absurd (omega (arith, c.clear, (held-taken (sectors_of d) t s.within (map_of d) w (occupied d) (occupied_small d) s.space p x pos).0))
+        | inl pos ↦ absurd (omega (arith, c.clear, (held_taken (sectors_of d) t s.within (map_of d) w (occupied d) (occupied_small d) s.space p x pos).0))
         | inr le ↦ omega arith
       ] in
       omega (arith, ap total zero, occupied_below d' x (omega (arith, c.bits x, held_as x, not-held, hit_self x)))
 
   root_not : root_at d ≡ x → ⊥
-  root_not q = omega (arith, root-there (sectors_of d) t s.within (root_at d) s.tree, ap present (ap t q ∙ free))
+  root_not q = omega (arith, root_there (sectors_of d) t s.within (root_at d) s.tree, ap present (ap t q ∙ free))
 
   -- nothing named the leaf before
   unnamed : (q : ℕ) → times x (names (t q)) ≡ 0
   unnamed q = elim (cases_lt 0 (times x (names (t q)))) [
-    | inl pos ↦ absurd (omega (arith, named-there (sectors_of d) t s.within (root_at d) s.tree q x pos, ap present free))
+    | inl pos ↦ absurd (omega (arith, named_there (sectors_of d) t s.within (root_at d) s.tree q x pos, ap present free))
     | inr le ↦ omega arith
   ]
 
@@ -82,7 +82,7 @@ module _ (d d' : Meaning) (w : ℕ → ℕ) (t t' : Table) (p : ℕ) (e e' : Ent
 
   add_stands : Stands d' w t'
   add_stands =
-      update-stands d d' w t t' s p x ne low_p low_x c.others (held p (Some e) ++ held p (Some e') ++ held x (Some f)) c.kept
+      update_stands d d' w t t' s p x ne low_p low_x c.others (held p (Some e) ++ held p (Some e') ++ held x (Some f)) c.kept
       (λ k a b a' b'.
       omega (arith, times-++ k (held p (Some e)) (held p (Some e')), times-++ k (held p (Some e) ++ held p (Some e')) (held x (Some f)), held_as k, held_as' k, ap (λ o. times k (held x o)) c.new))
       (λ k. omega (arith, c.bits k, held_as k, held_as' k, ap (λ o. times k (held x o)) free, ap (λ o. times k (held x o)) c.new))

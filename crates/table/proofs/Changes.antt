@@ -13,13 +13,13 @@ use Rattle.table.specs.Standing.{Shows, Stands}
 use Rattle.table.specs.Updates.{Changed}
 use Rattle.table.proofs.Occupied.{occupied_small}
 use Rattle.table.proofs.Reaches.{reach_more}
-use Rattle.table.proofs.Spaces.{of_entry, below, system-none}
-use Rattle.table.proofs.Updating.{update-stands}
+use Rattle.table.proofs.Spaces.{of_entry, below, system_none}
+use Rattle.table.proofs.Updating.{update_stands}
 
 module _ (d d' : Meaning) (w : ℕ → ℕ) (t t' : Table) (x : ℕ) (e e' : Entry) (s : Stands d w t) (c : Changed d d' t t' x e e') where
   -- LSN 0 is the second place: there is no entry, before or after
   none_at : t 0 ≡ None
-  none_at = system-none (sectors_of d) t s.within (map_of d) w (occupied d) (occupied_small d) s.space 0 (omega arith)
+  none_at = system_none (sectors_of d) t s.within (map_of d) w (occupied d) (occupied_small d) s.space 0 (omega arith)
 
   ne : x ≡ 0 → ⊥
   ne q = let a = ap present (ap t q ∙ none_at) in let b = ap present c.was in omega arith
@@ -47,7 +47,7 @@ module _ (d d' : Meaning) (w : ℕ → ℕ) (t t' : Table) (x : ℕ) (e e' : Ent
   change_stands =
       let low : x < sectors_of d = below (sectors_of d) t s.within x (omega (arith, ap present c.was)) in
       let ups : (l : ℕ) → up_of (t' l) ≡ up_of (t l) = shared up_of c.up in
-      update-stands d d' w t t' s x 0 ne low (omega (arith, s.rule_a.least)) (λ l nx n0. c.others l nx) (held x (Some e) ++ held x (Some e')) c.kept
+      update_stands d d' w t t' s x 0 ne low (omega (arith, s.rule_a.least)) (λ l nx n0. c.others l nx) (held x (Some e) ++ held x (Some e')) c.kept
       (λ k a b a' b'. omega (arith, times-++ k (held x (Some e)) (held x (Some e')), held_as k, held_as' k))
       (λ k. omega (arith, c.bits k, held_as k, held_as' k, ap (λ o. times k (held 0 o)) none_at, ap (λ o. times k (held 0 o)) none_after))
       (of_entry (Shows d' x) t' x e' c.is c.shows)

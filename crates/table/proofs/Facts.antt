@@ -20,7 +20,7 @@ use Rattle.table.proofs.Naming.{child_has}
 use Rattle.table.proofs.Occupied.{occupied_small, occupied_below, taken_none}
 use Rattle.table.proofs.Reading.{slot_at}
 use Rattle.table.proofs.SlotBytes.{slots_length, one_slot}
-use Rattle.table.proofs.Spaces.{below, held-taken, held_once, clear_none, named-there, naming_two, present_small, root-unnamed}
+use Rattle.table.proofs.Spaces.{below, held_taken, held_once, clear_none, named_there, naming_two, present_small, root_unnamed}
 use Rattle.table.proofs.Sums.{sum_some}
 
 kinds : {ss : List Slot} {xs : List ℕ} → file xs ≡ directory ss → ⊥
@@ -39,7 +39,7 @@ module _ (d : Meaning) (w : ℕ → ℕ) (t : Table) (s : Stands d w t) where
   -- a sector that an entry holds lies behind the map and in the volume, and is good
   pub held_good : (l k : ℕ) → 0 < times k (held l (t l)) → (map_of d < k) × (k < sectors_of d) × (d.bad k ≡ false)
   held_good l k pos =
-      let h = held-taken (sectors_of d) t s.within (map_of d) w (occupied d) (occupied_small d) s.space l k pos in
+      let h = held_taken (sectors_of d) t s.within (map_of d) w (occupied d) (occupied_small d) s.space l k pos in
       let lt = occupied_below d k (omega (arith, h.0)) in
       (h.1, lt, s.good k lt h.2)
 
@@ -76,81 +76,81 @@ module _ (d : Meaning) (w : ℕ → ℕ) (t : Table) (s : Stands d w t) where
     there : 0 < present (t l)
     there = omega (arith, ap present is)
 
-    pub entry-below : l < sectors_of d
-    entry-below = below (sectors_of d) t s.within l there
+    pub entry_below : l < sectors_of d
+    entry_below = below (sectors_of d) t s.within l there
 
     -- the sectors of its segments: each once, and none is its descriptor
-    pub extent-once : (k : ℕ) → times k (l ∷ extent e.segments) ≤ 1
-    extent-once k = omega (arith, ap (λ o. times k (held l o)) is, held_once (sectors_of d) t s.within (map_of d) w (occupied d) (occupied_small d) s.space l k)
+    pub extent_once : (k : ℕ) → times k (l ∷ extent e.segments) ≤ 1
+    extent_once k = omega (arith, ap (λ o. times k (held l o)) is, held_once (sectors_of d) t s.within (map_of d) w (occupied d) (occupied_small d) s.space l k)
 
-    pub extent-good : (k : ℕ) → 0 < times k (l ∷ extent e.segments) → (map_of d < k) × (k < sectors_of d) × (d.bad k ≡ false)
-    extent-good k pos = held_good l k (omega (arith, pos, ap (λ o. times k (held l o)) is))
+    pub extent_good : (k : ℕ) → 0 < times k (l ∷ extent e.segments) → (map_of d < k) × (k < sectors_of d) × (d.bad k ≡ false)
+    extent_good k pos = held_good l k (omega (arith, pos, ap (λ o. times k (held l o)) is))
 
     lawful : Lawful l (d.sector l) (content d.sector (d.sector l))
     lawful = (s.shown l e is).lawful
 
     -- its bytes are as many as its size says
-    pub content-long : Whole d → length (content d.sector (d.sector l)) ≡ size (d.sector l)
-    content-long whole = content-length d.sector (d.sector l) wide lawful.sized.held
+    pub content_long : Whole d → length (content d.sector (d.sector l)) ≡ size (d.sector l)
+    content_long whole = content-length d.sector (d.sector l) wide lawful.sized.held
       where
         wide : Wide d.sector 256 (extent (segments (d.sector l)))
         wide i lt =
             let k = get_or (extent (segments (d.sector l))) i 0 in
             let pos = get_or-times (extent (segments (d.sector l))) i lt in
-            whole k (omega (arith, s.rule_a.fits, (extent-good k (omega (arith, pos, ap (λ ss. times k (extent ss)) (segments_shown d l e (s.shown l e is))))).1))
+            whole k (omega (arith, s.rule_a.fits, (extent_good k (omega (arith, pos, ap (λ ss. times k (extent ss)) (segments_shown d l e (s.shown l e is))))).1))
 
     body_is : e.node.body ≡ (read_entry (d.sector l) (content d.sector (d.sector l))).node.body
     body_is = ap (λ (x : Entry). x.node.body) (sym (s.shown l e is).reads)
 
     -- a file is one by its attribute, and has the bytes of its sectors
-    pub file-shown : (xs : List ℕ) → e.node.body ≡ file xs → (is_directory (d.sector l) ≡ false) × (xs ≡ content d.sector (d.sector l))
-    file-shown xs plain = elim (cases_Bool (is_directory (d.sector l))) [
+    pub file_shown : (xs : List ℕ) → e.node.body ≡ file xs → (is_directory (d.sector l) ≡ false) × (xs ≡ content d.sector (d.sector l))
+    file_shown xs plain = elim (cases_Bool (is_directory (d.sector l))) [
       | inl dir ↦ absurd (kinds (sym plain ∙ body_is ∙ directory_read (d.sector l) (content d.sector (d.sector l)) dir))
       | inr not ↦ (not, file_bytes (sym plain ∙ body_is ∙ file_read (d.sector l) (content d.sector (d.sector l)) not))
     ]
 
     -- a directory is one too, and has the slots of those bytes
-    pub directory-shown : (ss : List Slot) → e.node.body ≡ directory ss → (is_directory (d.sector l) ≡ true) × (ss ≡ slots (content d.sector (d.sector l)))
-    directory-shown ss dir = elim (cases_Bool (is_directory (d.sector l))) [
+    pub directory_shown : (ss : List Slot) → e.node.body ≡ directory ss → (is_directory (d.sector l) ≡ true) × (ss ≡ slots (content d.sector (d.sector l)))
+    directory_shown ss dir = elim (cases_Bool (is_directory (d.sector l))) [
       | inl set ↦ (set, directory_slots (sym dir ∙ body_is ∙ directory_read (d.sector l) (content d.sector (d.sector l)) set))
       | inr plain ↦ absurd (kinds (sym (file_read (d.sector l) (content d.sector (d.sector l)) plain) ∙ sym body_is ∙ dir))
     ]
 
     module _ (ss : List Slot) (dir : e.node.body ≡ directory ss) where
       slots_lawful : SlotsLawful l (content d.sector (d.sector l))
-      slots_lawful = lawful.slots_lawful (directory-shown ss dir).0
+      slots_lawful = lawful.slots_lawful (directory_shown ss dir).0
 
       slots_are : (k : ℕ) → get_or ss k empty ≡ get_or (slots (content d.sector (d.sector l))) k empty
-      slots_are k = ap (λ rs. get_or rs k empty) (directory-shown ss dir).1
+      slots_are k = ap (λ rs. get_or rs k empty) (directory_shown ss dir).1
 
       -- as many slots as its size says, two at least
-      pub directory-long : Whole d → (length ss * 32 ≡ size (d.sector l)) × (2 ≤ length ss)
-      directory-long whole =
-          let long = ap length (directory-shown ss dir).1 ∙ slots_length (content d.sector (d.sector l)) in
-          let bytes = content-long whole in
+      pub directory_long : Whole d → (length ss * 32 ≡ size (d.sector l)) × (2 ≤ length ss)
+      directory_long whole =
+          let long = ap length (directory_shown ss dir).1 ∙ slots_length (content d.sector (d.sector l)) in
+          let bytes = content_long whole in
           let sized = lawful.sized in
-          let dir' = (directory-shown ss dir).0 in
+          let dir' = (directory_shown ss dir).0 in
           (omega (arith, long, bytes, sized.whole dir'), omega (arith, long, bytes, sized.two dir'))
 
       -- "." names the directory
-      pub here-shown : Whole d → get_or ss 0 empty ≡ entry (codes ".") l
-      here-shown whole =
-          let long = ap length (directory-shown ss dir).1 ∙ slots_length (content d.sector (d.sector l)) in
-          slots_are 0 ∙ slot_at (content d.sector (d.sector l)) 0 (omega (arith, long, (directory-long whole).1)) ∙ slots_lawful.here
+      pub here_shown : Whole d → get_or ss 0 empty ≡ entry (codes ".") l
+      here_shown whole =
+          let long = ap length (directory_shown ss dir).1 ∙ slots_length (content d.sector (d.sector l)) in
+          slots_are 0 ∙ slot_at (content d.sector (d.sector l)) 0 (omega (arith, long, (directory_long whole).1)) ∙ slots_lawful.here
 
       -- ".." names the directory that names it, or the root itself
-      pub up-shown : (p : ℕ) → 0 < times l (names (t p)) → get_or ss 1 empty ≡ entry (codes "..") p
-      up-shown p pos = subst (λ (o : Option Slot). Upward o p) (ap up_of is ∙ ap up_slot dir) (s.tree.up p l pos)
+      pub up_shown : (p : ℕ) → 0 < times l (names (t p)) → get_or ss 1 empty ≡ entry (codes "..") p
+      up_shown p pos = subst (λ (o : Option Slot). Upward o p) (ap up_of is ∙ ap up_slot dir) (s.tree.up p l pos)
 
-      pub top-shown : l ≡ root_at d → get_or ss 1 empty ≡ entry (codes "..") l
-      top-shown e = some_slot (sym (ap up_of is ∙ ap up_slot dir) ∙ ap (λ i. up_of (t i)) e ∙ s.tree.top) ∙ ap dots (sym e)
+      pub top_shown : l ≡ root_at d → get_or ss 1 empty ≡ entry (codes "..") l
+      top_shown e = some_slot (sym (ap up_of is ∙ ap up_slot dir) ∙ ap (λ i. up_of (t i)) e ∙ s.tree.top) ∙ ap dots (sym e)
 
       -- what a slot names is there, and no root
-      pub child-there : (i : ℕ) (n : List ℕ) (x : ℕ) → 2 ≤ i → get_or ss i empty ≡ entry n x → (0 < times x (names (t l))) × (0 < present (t x)) × (x ≡ root_at d → ⊥)
-      child-there i n x two at =
+      pub child_there : (i : ℕ) (n : List ℕ) (x : ℕ) → 2 ≤ i → get_or ss i empty ≡ entry n x → (0 < times x (names (t l))) × (0 < present (t x)) × (x ≡ root_at d → ⊥)
+      child_there i n x two at =
           let named : 0 < times x (names (t l)) = omega (arith, child_has x ss i n two at, ap (λ o. times x (names o)) is, ap (λ b. times x (named_in b)) dir) in
-          (named, named-there (sectors_of d) t s.within (root_at d) s.tree l x named, root-unnamed (sectors_of d) t s.within (root_at d) s.tree l x named)
+          (named, named_there (sectors_of d) t s.within (root_at d) s.tree l x named, root_unnamed (sectors_of d) t s.within (root_at d) s.tree l x named)
 
       -- a name is in one slot at most
-      pub name-once : (j k : ℕ) (n : List ℕ) (x y : ℕ) → 2 ≤ j → 2 ≤ k → get_or ss j empty ≡ entry n x → get_or ss k empty ≡ entry n y → j ≡ k
-      name-once j k n x y low-j low-k at_j at-k = one_slot l (content d.sector (d.sector l)) slots_lawful j k n x y low-j low-k (sym (slots_are j) ∙ at_j) (sym (slots_are k) ∙ at-k)
+      pub name_once : (j k : ℕ) (n : List ℕ) (x y : ℕ) → 2 ≤ j → 2 ≤ k → get_or ss j empty ≡ entry n x → get_or ss k empty ≡ entry n y → j ≡ k
+      name_once j k n x y low-j low-k at_j at-k = one_slot l (content d.sector (d.sector l)) slots_lawful j k n x y low-j low-k (sym (slots_are j) ∙ at_j) (sym (slots_are k) ∙ at-k)

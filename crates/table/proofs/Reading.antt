@@ -14,7 +14,7 @@ use Rattle.table.specs.Entries.{file, directory, Table, read_entry, at, present,
 use Rattle.table.specs.Standing.{Stands}
 use Rattle.table.proofs.Fields.{directory_read, file_read}
 use Rattle.table.proofs.Reaches.{reach_more}
-use Rattle.table.proofs.Spaces.{entry_of, names_some, named-there, root-there}
+use Rattle.table.proofs.Spaces.{entry_of, names_some, named_there, root_there}
 
 -- an entry that is read holds and names what its descriptor does
 pub held_read : (d : Meaning) (l : ℕ) → held l (Some (at d l)) ≡ holds d.sector l
@@ -68,6 +68,6 @@ module _ (d : Meaning) (w : ℕ → ℕ) (t : Table) (s : Stands d w t) where
       (reach_more (root_at d) (λ p. names (t p)) (children d.sector) (λ p i pos. subst (λ (xs : List ℕ). 0 < times i xs) (names_are p (names_some i (t p) pos)) pos) l (s.tree.reached l is))
 
   pub found_there : (l : ℕ) → Found d l → 0 < present (t l)
-  found_there _ at_root = root-there (sectors_of d) t s.within (root_at d) s.tree
+  found_there _ at_root = root_there (sectors_of d) t s.within (root_at d) s.tree
   found_there _ (by_slot p l r pos) =
-      named-there (sectors_of d) t s.within (root_at d) s.tree p l (subst (λ (xs : List ℕ). 0 < times l xs) (sym (names_are p (found_there p r))) pos)
+      named_there (sectors_of d) t s.within (root_at d) s.tree p l (subst (λ (xs : List ℕ). 0 < times l xs) (sym (names_are p (found_there p r))) pos)

@@ -12,8 +12,8 @@ use Rattle.table.specs.Standing.{Shows, Stands}
 use Rattle.table.specs.Updates.{Removed}
 use Rattle.table.proofs.Leaves.{Leaf, leaf_ups, leaf_present, leaf_one, leaf_none, leaf_others, leaf_balance}
 use Rattle.table.proofs.Reaches.{reach_less}
-use Rattle.table.proofs.Spaces.{of_entry, below, root-unnamed}
-use Rattle.table.proofs.Updating.{update-stands}
+use Rattle.table.proofs.Spaces.{of_entry, below, root_unnamed}
+use Rattle.table.proofs.Updating.{update_stands}
 
 module _ (d d' : Meaning) (w : ℕ → ℕ) (t t' : Table) (p : ℕ) (e e' : Entry) (x : ℕ) (f : Entry) (s : Stands d w t) (c : Removed d d' t t' p e e' x f) where
   -- the leaf names nothing, and the directory names it
@@ -34,7 +34,7 @@ module _ (d d' : Meaning) (w : ℕ → ℕ) (t t' : Table) (p : ℕ) (e e' : Ent
   held_old k = ap (λ o. times k (held x o)) c.old
 
   root_not : root_at d ≡ x → ⊥
-  root_not q = root-unnamed (sectors_of d) t s.within (root_at d) s.tree p x (omega (arith, leaf_one leaf_of x, hit_self x)) (sym q)
+  root_not q = root_unnamed (sectors_of d) t s.within (root_at d) s.tree p x (omega (arith, leaf_one leaf_of x, hit_self x)) (sym q)
 
   remove_up : (q l : ℕ) → 0 < times l (names (t' q)) → Upward (up_of (t' l)) q
   remove_up q l pos = elim (cases_eq l x) [
@@ -50,7 +50,7 @@ module _ (d d' : Meaning) (w : ℕ → ℕ) (t t' : Table) (p : ℕ) (e e' : Ent
 
   remove_stands : Stands d' w t'
   remove_stands =
-      update-stands d d' w t t' s p x ne
+      update_stands d d' w t t' s p x ne
       (below (sectors_of d) t s.within p (omega (arith, ap present c.was)))
       (below (sectors_of d) t s.within x (omega (arith, ap present c.old)))
       c.others (held p (Some e) ++ held p (Some e') ++ held x (Some f)) c.kept

@@ -9,8 +9,8 @@ use Rattle.table.specs.Laws.{SameKeeps}
 use Rattle.table.specs.Standing.{Shows, Stands}
 use Rattle.table.proofs.Frames.{frame}
 use Rattle.table.proofs.Occupied.{occupied_small, occupied_same, occupied_below}
-use Rattle.table.proofs.Spaces.{below, held-taken, held_self, root-there}
-use Rattle.table.proofs.Updating.{update-stands}
+use Rattle.table.proofs.Spaces.{below, held_taken, held_self, root_there}
+use Rattle.table.proofs.Updating.{update_stands}
 
 module _ (d d' : Meaning) (w : ℕ → ℕ) (t : Table) (s : Stands d w t) (same : Same d d') where
   sector_same : (k : ℕ) → k < sectors_of d → d'.sector k ≡ d.sector k
@@ -19,8 +19,8 @@ module _ (d d' : Meaning) (w : ℕ → ℕ) (t : Table) (s : Stands d w t) (same
   -- the root is one place of the table, and LSN 0 another
   root_low : (map_of d < root_at d) × (root_at d < sectors_of d)
   root_low =
-      let there = root-there (sectors_of d) t s.within (root_at d) s.tree in
-      let h = held-taken (sectors_of d) t s.within (map_of d) w (occupied d) (occupied_small d) s.space (root_at d) (root_at d) (held_self (root_at d) (t (root_at d)) there) in
+      let there = root_there (sectors_of d) t s.within (root_at d) s.tree in
+      let h = held_taken (sectors_of d) t s.within (map_of d) w (occupied d) (occupied_small d) s.space (root_at d) (root_at d) (held_self (root_at d) (t (root_at d)) there) in
       (h.1, below (sectors_of d) t s.within (root_at d) there)
 
   shown_same : (l : ℕ) (e : Entry) → t l ≡ Some e → Shows d' l e
@@ -29,12 +29,12 @@ module _ (d d' : Meaning) (w : ℕ → ℕ) (t : Table) (s : Stands d w t) (same
     where
       held_low : (l k : ℕ) (e : Entry) → t l ≡ Some e → 0 < times k (held l (Some e)) → k < sectors_of d
       held_low l k e is pos =
-          occupied_below d k (omega (arith, (held-taken (sectors_of d) t s.within (map_of d) w (occupied d) (occupied_small d) s.space l k (omega (arith, pos, ap (λ o. times k (held l o)) is))).0))
+          occupied_below d k (omega (arith, (held_taken (sectors_of d) t s.within (map_of d) w (occupied d) (occupied_small d) s.space l k (omega (arith, pos, ap (λ o. times k (held l o)) is))).0))
 
   same_stands : Stands d' w t
   same_stands =
       let bits : (k : ℕ) → occupied d' k ≡ occupied d k = occupied_same d d' (sector_same 0 (omega (arith, s.rule_a.least))) (λ k low high. sector_same k (omega (arith, high, root_low))) in
-      update-stands d d' w t t s (root_at d) 0 (λ e. omega (arith, e, root_low)) root_low.1 (omega (arith, s.rule_a.least)) (λ l nr n0. refl) []
+      update_stands d d' w t t s (root_at d) 0 (λ e. omega (arith, e, root_low)) root_low.1 (omega (arith, s.rule_a.least)) (λ l nr n0. refl) []
       (same.0, same.1, λ k lt h. same.2 k lt tt)
       (λ k a b a' b'. refl)
       (λ k. omega (arith, bits k))

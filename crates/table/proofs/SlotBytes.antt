@@ -72,8 +72,8 @@ module _ (xs xs' : List ℕ) where
       (right : (Unused (record_at 32 i xs') → ⊥) → SlotRight (record_at 32 i xs'))
       (new : (Unused (record_at 32 i xs') → ⊥) → (j : ℕ) → 2 ≤ j → j < length xs / 32 → (j ≡ i → ⊥) → (Unused (record_at 32 j xs) → ⊥) → name_of (take 28 (record_at 32 j xs)) ≡ name_of (take 28 (record_at 32 i xs')) → ⊥)
       (s : SlotsLawful l xs) where
-    pub lawful-put : SlotsLawful l xs'
-    lawful-put =
+    pub lawful_put : SlotsLawful l xs'
+    lawful_put =
         record {
           here = ap slot (same 0 (omega arith) (λ e. omega arith)).1 ∙ s.here;
           right = λ k low lt used. elim (cases_eq k i) [

@@ -14,7 +14,7 @@ use Rattle.table.specs.Laws.{TableSound}
 use Rattle.table.specs.Standing.{Lawful, Stands}
 use Rattle.table.proofs.Occupied.{occupied_is, occupied_small, occupied_below}
 use Rattle.table.proofs.Reading.{entry_read, names_are, held_are, there_found, found_there, up_directory, up_file, slot_within}
-use Rattle.table.proofs.Spaces.{held_self, naming_one, naming_two, held-taken, held-apart, held_once, named-there, root-there, root-unnamed, present_small}
+use Rattle.table.proofs.Spaces.{held_self, naming_one, naming_two, held_taken, held_apart, held_once, named_there, root_there, root_unnamed, present_small}
 
 module _ (d : Meaning) (w : ℕ → ℕ) (t : Table) (s : Stands d w t) where
   there : (l : ℕ) → Found d l → 0 < present (t l)
@@ -28,7 +28,7 @@ module _ (d : Meaning) (w : ℕ → ℕ) (t : Table) (s : Stands d w t) where
   names_so p l r = ap (times l) (names_are d w t s p (there p r))
 
   taken_so : (l k : ℕ) → Found d l → 0 < times k (holds d.sector l) → (occupied d k ≡ 1) × (map_of d < k) × (w k ≡ 0)
-  taken_so l k r pos = held-taken (sectors_of d) t s.within (map_of d) w (occupied d) (occupied_small d) s.space l k (omega (arith, pos, held_so l k r))
+  taken_so l k r pos = held_taken (sectors_of d) t s.within (map_of d) w (occupied d) (occupied_small d) s.space l k (omega (arith, pos, held_so l k r))
 
   inside_so : (l k : ℕ) → Found d l → 0 < times k (holds d.sector l) → Inside d k
   inside_so l k r pos = let h = taken_so l k r pos in (h.1, occupied_below d k (omega (arith, h.0)))
@@ -52,7 +52,7 @@ module _ (d : Meaning) (w : ℕ → ℕ) (t : Table) (s : Stands d w t) where
   directory_root : is_directory (d.sector (root_at d)) ≡ true
   directory_root = elim (cases_Bool (is_directory (d.sector (root_at d)))) [
     | inl is ↦ is
-    | inr not ↦ absurd (never (sym s.tree.top ∙ ap up_of (entry_read d w t s (root_at d) (root-there (sectors_of d) t s.within (root_at d) s.tree)) ∙ up_file d (root_at d) not))
+    | inr not ↦ absurd (never (sym s.tree.top ∙ ap up_of (entry_read d w t s (root_at d) (root_there (sectors_of d) t s.within (root_at d) s.tree)) ∙ up_file d (root_at d) not))
   ]
     where
       never : Some (dots (root_at d)) ≡ None → ⊥
@@ -65,7 +65,7 @@ module _ (d : Meaning) (w : ℕ → ℕ) (t : Table) (s : Stands d w t) where
 
   -- nothing is named twice
   not_again : (l : ℕ) → Again d l → ⊥
-  not_again l (root_too p r e pos) = root-unnamed (sectors_of d) t s.within (root_at d) s.tree p l (omega (arith, pos, names_so p l r)) e
+  not_again l (root_too p r e pos) = root_unnamed (sectors_of d) t s.within (root_at d) s.tree p l (omega (arith, pos, names_so p l r)) e
   not_again l (same_directory p r two) =
       omega (arith, two, names_so p l r, naming_one (sectors_of d) t s.within l p, s.tree.named l, present_small (t l))
   not_again l (two_directories p q ne r r' pos pos') =
@@ -76,7 +76,7 @@ module _ (d : Meaning) (w : ℕ → ℕ) (t : Table) (s : Stands d w t) where
   not_twice k (inside l r two) =
       omega (arith, two, held_so l k r, held_once (sectors_of d) t s.within (map_of d) w (occupied d) (occupied_small d) s.space l k)
   not_twice k (shared l l' ne r r' pos pos') =
-      omega (arith, pos', held_so l' k r', held-apart (sectors_of d) t s.within (map_of d) w (occupied d) (occupied_small d) s.space l l' k ne (omega (arith, pos, held_so l k r)))
+      omega (arith, pos', held_so l' k r', held_apart (sectors_of d) t s.within (map_of d) w (occupied d) (occupied_small d) s.space l l' k ne (omega (arith, pos, held_so l k r)))
   not_twice k (again l r a pos) = not_again l a
 
   -- owned sectors are taken, and not withheld
@@ -109,7 +109,7 @@ module _ (d : Meaning) (w : ℕ → ℕ) (t : Table) (s : Stands d w t) where
             record {
               segments_inside = λ k pos. inside_so l k r (omega (arith, pos));
               children_inside = λ k pos.
-                  own_inside k (there_found d w t s k (named-there (sectors_of d) t s.within (root_at d) s.tree l k (omega (arith, pos, names_so l k r))));
+                  own_inside k (there_found d w t s k (named_there (sectors_of d) t s.within (root_at d) s.tree l k (omega (arith, pos, names_so l k r))));
             };
         rule_c = λ l r. (lawful l r).tidy;
         rule_d = λ l r. (lawful l r).sized;

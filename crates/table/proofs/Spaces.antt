@@ -58,8 +58,8 @@ module _ (T : ℕ) (t : Table) (within : (l : ℕ) → T ≤ l → t l ≡ None)
 
   module _ (m : ℕ) (w bits : ℕ → ℕ) (small : (k : ℕ) → bits k ≤ 1) (space : Space m T w bits t) where
     -- a sector that an entry holds is taken, and not the system's
-    pub held-taken : (l k : ℕ) → 0 < times k (held l (t l)) → (bits k ≡ 1) × (m < k) × (w k ≡ 0)
-    held-taken l k pos =
+    pub held_taken : (l k : ℕ) → 0 < times k (held l (t l)) → (bits k ≡ 1) × (m < k) × (w k ≡ 0)
+    held_taken l k pos =
         let a = claim_one k l in
         let b = space k in
         let c = small k in
@@ -69,8 +69,8 @@ module _ (T : ℕ) (t : Table) (within : (l : ℕ) → T ≤ l → t l ≡ None)
         ]
 
     -- two entries share no sector
-    pub held-apart : (l x k : ℕ) → (l ≡ x → ⊥) → 0 < times k (held l (t l)) → times k (held x (t x)) ≡ 0
-    held-apart l x k ne pos =
+    pub held_apart : (l x k : ℕ) → (l ≡ x → ⊥) → 0 < times k (held l (t l)) → times k (held x (t x)) ≡ 0
+    held_apart l x k ne pos =
         let a = claim_two k l x ne in
         let b = space k in
         let c = small k in
@@ -85,19 +85,19 @@ module _ (T : ℕ) (t : Table) (within : (l : ℕ) → T ≤ l → t l ≡ None)
 
     -- a clear sector has no entry, and neither has one of the system's
     pub clear_none : (x : ℕ) → bits x ≡ 0 → t x ≡ None
-    clear_none x clear = none_of (t x) (elim (cases_lt 0 (present (t x))) [ inl pos ↦ absurd (omega (arith, (held-taken x x (held_self x (t x) pos)).0)) | inr le ↦ omega arith ])
+    clear_none x clear = none_of (t x) (elim (cases_lt 0 (present (t x))) [ inl pos ↦ absurd (omega (arith, (held_taken x x (held_self x (t x) pos)).0)) | inr le ↦ omega arith ])
 
-    pub system-none : (x : ℕ) → x ≤ m → t x ≡ None
-    system-none x le = none_of (t x) (elim (cases_lt 0 (present (t x))) [ inl pos ↦ absurd (omega (arith, (held-taken x x (held_self x (t x) pos)).1)) | inr le ↦ omega arith ])
+    pub system_none : (x : ℕ) → x ≤ m → t x ≡ None
+    system_none x le = none_of (t x) (elim (cases_lt 0 (present (t x))) [ inl pos ↦ absurd (omega (arith, (held_taken x x (held_self x (t x) pos)).1)) | inr le ↦ omega arith ])
 
   module _ (root : ℕ) (tree : Tree root T t) where
     -- what is named is there, and so is the root
-    pub named-there : (p l : ℕ) → 0 < times l (names (t p)) → 0 < present (t l)
-    named-there p l pos = omega (arith, tree.named l, naming_one l p)
+    pub named_there : (p l : ℕ) → 0 < times l (names (t p)) → 0 < present (t l)
+    named_there p l pos = omega (arith, tree.named l, naming_one l p)
 
-    pub root-there : 0 < present (t root)
-    root-there = omega (arith, tree.named root, hit_self root)
+    pub root_there : 0 < present (t root)
+    root_there = omega (arith, tree.named root, hit_self root)
 
     -- the root is named by no slot
-    pub root-unnamed : (p l : ℕ) → 0 < times l (names (t p)) → l ≡ root → ⊥
-    root-unnamed p l pos e = elim (hit_is l root) [ inl h ↦ omega (arith, h.1, tree.named l, naming_one l p, present_small (t l)) | inr h ↦ h.0 e ]
+    pub root_unnamed : (p l : ℕ) → 0 < times l (names (t p)) → l ≡ root → ⊥
+    root_unnamed p l pos e = elim (hit_is l root) [ inl h ↦ omega (arith, h.1, tree.named l, naming_one l p, present_small (t l)) | inr h ↦ h.0 e ]

@@ -13,7 +13,7 @@ use Rattle.table.specs.Standing.{Shows, Space, Tree, Stands}
 use Rattle.table.specs.Updates.{Beside}
 use Rattle.table.proofs.Frames.{frame}
 use Rattle.table.proofs.Occupied.{occupied_small, occupied_below}
-use Rattle.table.proofs.Spaces.{held-taken, held-apart}
+use Rattle.table.proofs.Spaces.{held_taken, held_apart}
 use Rattle.table.proofs.Sums.{sum_two}
 
 module _ (d d' : Meaning) (w : ℕ → ℕ) (t t' : Table) (s : Stands d w t) (p x : ℕ) (ne : p ≡ x → ⊥) (low_p : p < sectors_of d) (low_x : x < sectors_of d)
@@ -38,9 +38,9 @@ module _ (d d' : Meaning) (w : ℕ → ℕ) (t t' : Table) (s : Stands d w t) (p
   same_sector : (l k : ℕ) → (l ≡ p → ⊥) → (l ≡ x → ⊥) → 0 < times k (held l (t l)) → d'.sector k ≡ d.sector k
   same_sector l k np nx pos =
       let pos' : 0 < times k (held l (t' l)) = omega (arith, ap (λ o. times k (held l o)) (others l np nx)) in
-      let old = held-taken (sectors_of d) t s.within (map_of d) w (occupied d) (occupied_small d) s.space l k pos in
-      let apart = held-apart (sectors_of d) t s.within (map_of d) w (occupied d) (occupied_small d) s.space l in
-      let apart' = held-apart (sectors_of d) t' within' (map_of d) w (occupied d') (occupied_small d') space' l in
+      let old = held_taken (sectors_of d) t s.within (map_of d) w (occupied d) (occupied_small d) s.space l k pos in
+      let apart = held_apart (sectors_of d) t s.within (map_of d) w (occupied d) (occupied_small d) s.space l in
+      let apart' = held_apart (sectors_of d) t' within' (map_of d) w (occupied d') (occupied_small d') space' l in
       let free = touched k (apart p k np pos) (apart x k nx pos) (apart' p k np pos') (apart' x k nx pos') in
       kept.2 k (omega (arith, occupied_below d k (omega (arith, old.0)), s.rule_a.fits)) (inr (old.1, free))
 
@@ -75,9 +75,9 @@ module _ (d d' : Meaning) (w : ℕ → ℕ) (t t' : Table) (s : Stands d w t) (p
         omega (arith, two, s.tree.named l, balance l)
 
     -- what is left to show of an update: ".." of each directory, and that every entry is reached
-    pub update-stands :
+    pub update_stands :
         up_of (t' (root_at d)) ≡ Some (dots (root_at d)) → ((q l : ℕ) → 0 < times l (names (t' q)) → Upward (up_of (t' l)) q) → ((l : ℕ) → 0 < present (t' l) → ReachedBy (λ q. names (t' q)) (root_at d) l) → Stands d' w t'
-    update-stands top' up' reached' =
+    update_stands top' up' reached' =
         let T : sectors_of d' ≡ sectors_of d = ap total same_zero in
         record {
           rule_a = rule_a';

@@ -7,7 +7,7 @@ use Rattle.descriptors.proofs.Extents.{nth-none}
 use Rattle.devices.specs.Meaning.{Refuses}
 use Rattle.content.specs.Rows.{sectors, Beside}
 use Rattle.content.specs.Writing.{Written}
-use Rattle.content.proofs.WriteSteps.{write_none, write_same, write-turn, refused_before}
+use Rattle.content.proofs.WriteSteps.{write_none, write_same, write_turn, refused_before}
 use Rattle.content.proofs.write_bytes.write_at.Goals as goal
 
 pub loop-done-init : goal.loop-done-init
@@ -55,7 +55,7 @@ loop-done-preserved g c =
     let some = nth_some e ((p + d) / 256) c.in-Some.lsn (sym c.in-Some.ensures) in
     let yes = c.in_ok-write_part.ensures in (
       omega arith,
-      write-turn m₀ m m' e c.args.bytes.now p d c.loop-done.invariant.1 c.min-end.result c.in-Some.lsn _
+      write_turn m₀ m m' e c.args.bytes.now p d c.loop-done.invariant.1 c.min-end.result c.in-Some.lsn _
           some.0 some.1 (omega arith) (omega arith) (omega arith) refl yes.done,
       yes.beside ∙ c.loop-done.invariant.2,
     )

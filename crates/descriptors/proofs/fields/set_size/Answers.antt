@@ -2,7 +2,7 @@ use Rattle.std.proofs.Common.{◌≡◌, ap, ◌∙◌}
 use Rattle.layout.specs.Bytes.{bytes, over}
 use Rattle.layout.specs.Descriptor.{segment}
 use Rattle.descriptors.specs.Shown.{shown}
-use Rattle.descriptors.proofs.Showings.{size-shown, size-entries}
+use Rattle.descriptors.proofs.Showings.{size_shown, size_entries}
 use Rattle.descriptors.proofs.fields.set_size.Goals as goal
 
 pub returns : goal.returns
@@ -12,6 +12,6 @@ returns c =
     let laid : c.put.new.bytes ≡ over 9 (bytes 4 n) xs = cc in
     record {
       laid = laid;
-      shows = ap shown laid ∙ size-shown xs c.requires.wide n c.requires.fits;
-      entries = λ k lt. ap (λ s. segment s k) laid ∙ size-entries xs c.requires.wide n c.requires.fits k lt;
+      shows = ap shown laid ∙ size_shown xs c.requires.wide n c.requires.fits;
+      entries = λ k lt. ap (λ s. segment s k) laid ∙ size_entries xs c.requires.wide n c.requires.fits k lt;
     }

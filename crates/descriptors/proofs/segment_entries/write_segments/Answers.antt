@@ -9,7 +9,7 @@ use Rattle.descriptors.specs.Shown.{shown}
 use Rattle.descriptors.specs.Stored.{entries_of, stored}
 use Rattle.descriptors.proofs.Laid.{over_none}
 use Rattle.descriptors.proofs.Showings.{segments_shown}
-use Rattle.descriptors.proofs.Storing.{entries_length, fits-at, stored-tidy, entry_more, listed_few}
+use Rattle.descriptors.proofs.Storing.{entries_length, fits_at, stored_tidy, entry_more, listed_few}
 use Rattle.descriptors.proofs.segment_entries.write_segments.Goals as goal
 
 pub loop-k-init : goal.loop-k-init
@@ -18,7 +18,7 @@ loop-k-init c = sym (over_none 16 c.args.descriptor.now)
 pub put_segment-requires : goal.put_segment-requires
 put_segment-requires c =
     let ss = listed c.args.segments.now in
-    let fits = fits-at ss (listed_few c.args.segments.now) c.requires.storable c.loop-k.k in
+    let fits = fits_at ss (listed_few c.args.segments.now) c.requires.storable c.loop-k.k in
     record {
       wide = omega arith;
       few = omega arith;
@@ -42,5 +42,5 @@ returns c =
     record {
       laid = laid;
       shows = ap shown laid ∙ segments_shown xs c.requires.wide ss short c.requires.storable;
-      tidy = rw laid (stored-tidy ss short c.requires.storable xs c.requires.wide);
+      tidy = rw laid (stored_tidy ss short c.requires.storable xs c.requires.wide);
     }

@@ -17,7 +17,7 @@ returns-then-unused g c =
     let k = c.loop-k.k in
     let same = c.bytes_wide-wide.ensures in (
       rw same at (row_fits (length xs) c.bytes_wide-wide.result k c.loop-k-test.true),
-      ap g.R.Record.isUnused (sym (record_part k g.R.Record.width c.bytes_wide-wide.result xs same)) ∙ sym c.if-unused.ensures,
+      ap g.R.Record.is_unused (sym (record_part k g.R.Record.width c.bytes_wide-wide.result xs same)) ∙ sym c.if-unused.ensures,
       c.loop-k.invariant,
     )
 

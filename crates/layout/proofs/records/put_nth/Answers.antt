@@ -10,8 +10,8 @@ returns g c =
     let xs = c.args.table.now in
     let v = c.args.value.now in
     let long = g.met.R.Record.wide v c.requires.1 in
-    let laid = put_record k w c.bytes_wide-wide.result xs _ (g.R.Record.bytesOf v) c.bytes_wide-wide.ensures long c.write.ensures in
+    let laid = put_record k w c.bytes_wide-wide.result xs _ (g.R.Record.bytes_of v) c.bytes_wide-wide.ensures long c.write.ensures in
     record {
       laid = laid;
-      back = ap (λ ys. g.R.Record.valueOf (record_at w k ys)) laid ∙ ap g.R.Record.valueOf (record_here k w (g.R.Record.bytesOf v) xs c.requires.0 long) ∙ g.met.R.Record.back v c.requires.1;
+      back = ap (λ ys. g.R.Record.value_of (record_at w k ys)) laid ∙ ap g.R.Record.value_of (record_here k w (g.R.Record.bytes_of v) xs c.requires.0 long) ∙ g.met.R.Record.back v c.requires.1;
     }

@@ -11,7 +11,7 @@ use Rattle.survey.specs.declared.finding.Finding.{Finding}
 use Rattle.survey.specs.declared.finding.Finding.TheVariants.{Broken, Unread}
 use Rattle.survey.specs.declared.waiting.Waiting.{Waiting}
 use Rattle.survey.proofs.SlotReads.{wide_of, slot_is, count_is, unread}
-use Rattle.survey.proofs.Scans.{Scan, scan_starts, scan-passes, scan-takes, scan-room, breaks_b, breaks_e, breaks_g, scan_ends}
+use Rattle.survey.proofs.Scans.{Scan, scan_starts, scan_passes, scan_takes, scan_room, breaks_b, breaks_e, breaks_g, scan_ends}
 use Rattle.survey.proofs.scan.scan_slots.Goals as goal
 
 module _ (d : Meaning) (l low high base n : ℕ) (m₀ : List ℕ) (ws₀ : List Waiting) (dir : is_directory (d.sector l) ≡ true) (total : slot_count d l ≡ n)
@@ -32,10 +32,10 @@ module _ (d : Meaning) (l low high base n : ℕ) (m₀ : List ℕ) (ws₀ : List
 
   steps : (m' : List ℕ) (ws' : List Waiting) (c : ℕ) → ((c : ℕ) → times c (lsns base ws₀) ≤ get_or m₀ c 0) → ((c : ℕ) → 0 < times c (lsns base ws₀) → c < high) → high ≤ length ws → high ≤ length m
       → SlotTaken (slot_bytes_at d l k) l low high base count m m' ws ws' (Ok c) → Scan d l low high base m₀ ws₀ (k + 1) c m' ws'
-  steps m' ws' c listed low_ones fits long (inl p) = subst (λ (i : ℕ). Scan d l low high base m₀ ws₀ (k + 1) i m' ws') (sym p.0) (scan-passes d l low high base m₀ ws₀ k count m ws two s m' ws' p.1)
+  steps m' ws' c listed low_ones fits long (inl p) = subst (λ (i : ℕ). Scan d l low high base m₀ ws₀ (k + 1) i m' ws') (sym p.0) (scan_passes d l low high base m₀ ws₀ k count m ws two s m' ws' p.1)
   steps m' ws' c listed low_ones fits long (inr t) =
       subst (λ (i : ℕ). Scan d l low high base m₀ ws₀ (k + 1) i m' ws') (sym t.0)
-      (scan-takes d l low high base m₀ ws₀ k count m ws two s m' ws' (scan-room d l low high base m₀ ws₀ k count m ws two s listed low_ones fits _ t.1.below t.1.unmarked) long t.1)
+      (scan_takes d l low high base m₀ ws₀ k count m ws two s m' ws' (scan_room d l low high base m₀ ws₀ k count m ws two s listed low_ones fits _ t.1.below t.1.unmarked) long t.1)
 
 pub loop-k-init : goal.loop-k-init
 loop-k-init g c = scan_starts _ _ _ _ _ _ _ c.requires.some c.requires.small
@@ -48,7 +48,7 @@ take_slot-requires g c =
     record {
       marked = omega (arith, c.requires.marked, c.loop-k.auto.marks);
       some = c.loop-k.invariant.most;
-      room = scan-room _ _ _ _ _ _ _ c.loop-k.k c.loop-k.count c.loop-k.marks c.loop-k.waiting c.loop-k.auto.k c.loop-k.invariant c.requires.listed c.requires.inside (omega (arith, c.requires.room, c.loop-k.auto.waiting));
+      room = scan_room _ _ _ _ _ _ _ c.loop-k.k c.loop-k.count c.loop-k.marks c.loop-k.waiting c.loop-k.auto.k c.loop-k.invariant c.requires.listed c.requires.inside (omega (arith, c.requires.room, c.loop-k.auto.waiting));
     }
 
 pub returns-in-Err-take_slot : goal.returns-in-Err-take_slot

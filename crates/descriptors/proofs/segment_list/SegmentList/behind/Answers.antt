@@ -3,7 +3,7 @@ use Rattle.std.proofs.lemmas.List.{append-nil, drop_all, length_push}
 use Rattle.layout.specs.declared.segment.Segment.{Segment}
 use Rattle.descriptors.specs.Cuts.{freed}
 use Rattle.descriptors.specs.Lists.{listed}
-use Rattle.descriptors.proofs.Cutting.{storable_at, part_step, past-step}
+use Rattle.descriptors.proofs.Cutting.{storable_at, part_step, past_step}
 use Rattle.descriptors.proofs.segment_list.SegmentList.behind.Goals as goal
 use Rattle.descriptors.proofs.segment_list.SegmentList.behind.Goals.{then-left-segment, else-left-segment}
 
@@ -32,7 +32,7 @@ loop-k-preserved c =
       | else-left-segment w ↦
           let same : listed c.if-left-segment.runs ≡ done = ap listed w.runs-is in (
             ap₂ (λ (xs : List Segment) (n : ℕ). xs ++ freed n (drop (k + 1) ss)) same less
-                ∙ past-step ss k s (omega arith) c.segment-segment.ensures done left w.if-left-segment.false
+                ∙ past_step ss k s (omega arith) c.segment-segment.ensures done left w.if-left-segment.false
                 ∙ c.loop-k.invariant.0,
             omega (arith, ap length same, c.loop-k.invariant.1),
           )
