@@ -3,7 +3,7 @@
 
 usage: python3 tools/take_up.py [FOLDER]     the repository's top, by default the one that this script lies in
 
-Each file of docs/unfinished/tree goes to its place (without the .txt behind .rt and .antt), and each that removed.txt names goes away.
+Each file of docs/unfinished/tree goes to its place (without the .txt behind .rt, .antt and crates.txt), and each that removed.txt names goes away.
 Commit first: files are overwritten. docs/unfinished/README.md says what the work is; delete that folder once it is taken up.
 """
 import os
@@ -26,7 +26,7 @@ for folder, _, files in os.walk(TREE):
     for name in files:
         path = os.path.join(folder, name)
         place = os.path.join(TOP, os.path.relpath(path, TREE))
-        if place.endswith((".rt.txt", ".antt.txt")):
+        if place.endswith((".rt.txt", ".antt.txt", "crates.txt.txt")):
             place = place[: -len(".txt")]
         os.makedirs(os.path.dirname(place), exist_ok=True)
         shutil.copy(path, place)
