@@ -21,7 +21,7 @@ use Rattle.survey.specs.Walks.{WalkAnswer}
 use Rattle.survey.specs.declared.finding.Finding.{Finding}
 use Rattle.survey.specs.declared.finding.Finding.TheVariants as finding
 use Rattle.survey.specs.declared.waiting.Waiting.{Waiting}
-use Rattle.survey.proofs.Blocks.{get_or-times}
+use Rattle.rules.proofs.Members.{get_or-times}
 
 -- after some turns: what was visited, and what waits with its parent
 pub record Going (d : Meaning) (m₀ m : List ℕ) (ws : List Waiting) (turn count : ℕ) : Type 0 where

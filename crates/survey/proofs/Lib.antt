@@ -1,5 +1,4 @@
-pub mod Blocks
-pub mod Extents
+pub mod Entries
 pub mod Goings
 pub mod Markings
 pub mod Periods

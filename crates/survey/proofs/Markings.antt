@@ -3,21 +3,8 @@ use Rattle.std.proofs.Common.{◌≡◌, ℕ, ◌+◌, ◌-◌, ◌<◌, ◌≤�
 use Rattle.std.proofs.lemmas.Bool.{cases_eq, cases_lt}
 use Rattle.layout.specs.Descriptor.{upto}
 use Rattle.rules.specs.Nodes.{times}
+use Rattle.rules.proofs.Runs.{upto_in, upto_out, upto_more}
 use Rattle.survey.specs.Marks.{Marked}
-use Rattle.survey.proofs.Within.{upto_in, upto_out}
-
--- a run and one sector more
-pub upto_more : (i s n : ℕ) → times i (upto s (n + 1)) ≡ times i (upto s n) + times i (upto (s + n) 1)
-upto_more i s n = elim (cases_lt i s) [
-  | inl lt ↦ omega (arith, upto_out i s (n + 1) (inl lt), upto_out i s n (inl lt), upto_out i (s + n) 1 (inl (omega arith)))
-  | inr ge ↦ elim (cases_lt i (s + n)) [
-    | inl lt ↦ omega (arith, upto_in i s (n + 1) ge (omega arith), upto_in i s n ge lt, upto_out i (s + n) 1 (inl lt))
-    | inr le ↦ elim (cases_eq i (s + n)) [
-      | inl e ↦ omega (arith, upto_in i s (n + 1) ge (omega arith), upto_out i s n (inr le), upto_in i (s + n) 1 le (omega arith))
-      | inr ne ↦ omega (arith, upto_out i s (n + 1) (inr (omega arith)), upto_out i s n (inr le), upto_out i (s + n) 1 (inr (omega arith)))
-    ]
-  ]
-]
 
 module _ (es ms : List ℕ) (s k : ℕ) (le : s ≤ k) (lt : k < length ms) (clear : get_or ms k 0 ≡ 0)
     (m : Marked es (upto s (k - s)) ms) (one : (i : ℕ) → 0 < times i (upto s (k - s)) → get_or ms i 0 ≡ 1) where
@@ -25,7 +12,7 @@ module _ (es ms : List ℕ) (s k : ℕ) (le : s ≤ k) (lt : k < length ms) (cle
   again i =
       let n : (k + 1) - s ≡ (k - s) + 1 = omega arith in
       let at : s + (k - s) ≡ k = omega arith in
-      ap (λ j. times i (upto s j)) n ∙ upto_more i s (k - s) ∙ ap (λ j. times i (upto s (k - s)) + times i (upto j 1)) at
+      ap (λ j. times i (upto s j)) n ∙ upto_more i s (k - s) 1 ∙ ap (λ j. times i (upto s (k - s)) + times i (upto j 1)) at
 
   pub mark_more : Marked es (upto s ((k + 1) - s)) (set ms k 1)
   mark_more i = elim (cases_eq i k) [

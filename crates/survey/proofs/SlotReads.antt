@@ -7,7 +7,8 @@ use Rattle.layout.specs.Descriptor.{size, segments, extent, content}
 use Rattle.layout.specs.Records.{record_at}
 use Rattle.rules.specs.Nodes.{times}
 use Rattle.rules.specs.Rules.{SegmentsWithin, slot_bytes_at, slot_count}
-use Rattle.survey.proofs.Blocks.{Wide, slot_block, content-length, nth-times, get_or-times}
+use Rattle.descriptors.proofs.Blocks.{Wide, slot_block, content-length}
+use Rattle.rules.proofs.Members.{nth-times, get_or-times}
 use Rattle.survey.specs.Slots.{SlotRead}
 
 -- the sectors of a file lie on the device

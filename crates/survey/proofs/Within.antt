@@ -1,47 +1,21 @@
 -- The sectors of a segment list, by its entries.
-use Rattle.std.proofs.Common.{◌≡◌, ℕ, zero, suc, ◌+◌, ◌<◌, ◌≤◌, ◌⊎◌, List, [], ◌∷◌, ◌++◌, refl, ap, ◌∙◌, inl, inr, arith}
+use Rattle.std.proofs.Common.{◌≡◌, ℕ, zero, suc, ◌+◌, ◌<◌, ◌≤◌, List, ap, ◌∙◌, inl, inr, arith}
 use Rattle.std.proofs.lemmas.Bool.{cases_eq, cases_lt}
 use Rattle.layout.specs.Descriptor.{segment, segments, upto, extent}
 use Rattle.layout.specs.declared.segment.Segment.{Segment}
 use Rattle.rules.specs.Nodes.{times}
-use Rattle.rules.proofs.Times.{hit_is}
+use Rattle.rules.proofs.Runs.{upto_in, upto_has}
+use Rattle.rules.proofs.Times.{times-++}
+use Rattle.descriptors.proofs.Extents.{rest, rest_more, rest_end, split}
 use Rattle.survey.specs.Entries.{Used}
-use Rattle.survey.proofs.Extents.{rest, rest_more, rest_end, split}
-
-pub times-++ : (k : ℕ) (xs ys : List ℕ) → times k (xs ++ ys) ≡ times k xs + times k ys
-times-++ k [] ys = omega arith
-times-++ k (x ∷ xs) ys = omega (arith, times-++ k xs ys)
-
--- a run of sectors has each of its sectors once, and no other
-pub upto_out : (k s n : ℕ) → (k < s) ⊎ (s + n ≤ k) → times k (upto s n) ≡ 0
-unfolding upto
-upto_out k s zero w = refl
-upto_out k s (suc n) w = elim (hit_is k s) [
-  | inl h ↦ absurd (elim w [ inl lt ↦ omega (arith, h.0) | inr le ↦ omega (arith, h.0) ])
-  | inr h ↦ omega (arith, h.1, upto_out k (s + 1) n (elim w [ inl lt ↦ inl (omega arith) | inr le ↦ inr (omega arith) ]))
-]
-
-pub upto_in : (k s n : ℕ) → s ≤ k → k < s + n → times k (upto s n) ≡ 1
-unfolding upto
-upto_in k s zero le lt = absurd (omega arith)
-upto_in k s (suc n) le lt = elim (hit_is k s) [
-  | inl h ↦ omega (arith, h.1, upto_out k (s + 1) n (inl (omega (arith, h.0))))
-  | inr h ↦ omega (arith, h.1, upto_in k (s + 1) n (omega (arith, h.0)) (omega arith))
-]
-
--- what a run has lies in it
-pub upto_has : (k s n : ℕ) → 0 < times k (upto s n) → (s ≤ k) × (k < s + n)
-upto_has k s n pos = elim (cases_lt k s) [
-  | inl lt ↦ absurd (omega (arith, upto_out k s n (inl lt)))
-  | inr ge ↦ elim (cases_lt k (s + n)) [ inl lt ↦ (ge, lt) | inr le ↦ absurd (omega (arith, upto_out k s n (inr le))) ]
-]
+use Rattle.survey.proofs.Entries.{as_entries}
 
 module _ (s : List ℕ) (n : ℕ) (u : Used s n) where
   -- the sectors from the entry i on, where those behind it lie within bounds
   from_entry : (P : ℕ → Type 0) (f i : ℕ) → i + f ≡ n → ((j : ℕ) → i ≤ j → j < n → (k : ℕ) → (segment s j).start ≤ k → k < (segment s j).start + (segment s j).len → P k) → (k : ℕ) → 0 < times k (extent (rest s i)) → P k
   from_entry P zero i e h k pos =
       let same : i ≡ n = omega arith in
-      let none : times k (extent (rest s i)) ≡ 0 = ap (λ l. times k (extent l)) (ap (rest s) same ∙ rest_end s n u) in
+      let none : times k (extent (rest s i)) ≡ 0 = ap (λ l. times k (extent l)) (ap (rest s) same ∙ rest_end s n (as_entries s n u)) in
       absurd (omega arith)
   from_entry P (suc f) i e h k pos =
       let g : Segment = segment s i in
@@ -69,9 +43,6 @@ module _ (s : List ℕ) (n : ℕ) (u : Used s n) where
 
   pub entry_has : (j k : ℕ) → j < n → (segment s j).start ≤ k → k < (segment s j).start + (segment s j).len → 0 < times k (extent (segments s))
   entry_has j k lt low high = from_has n 0 j k (omega arith) (omega arith) lt low high
-
-pub upto_none : (k s n : ℕ) → n ≡ 0 → times k (upto s n) ≡ 0
-upto_none k s n e = elim (cases_lt k s) [ inl lt ↦ upto_out k s n (inl lt) | inr ge ↦ upto_out k s n (inr (omega arith)) ]
 
 -- the sectors from an entry on are its own and those behind it
 pub split_times : (s : List ℕ) (k : ℕ) (g : Segment) → g ≡ segment s k → k < 48 → (g.len ≡ 0 → ⊥) → (i : ℕ) → times i (extent (rest s k)) ≡ times i (upto g.start g.len) + times i (extent (rest s (k + 1)))

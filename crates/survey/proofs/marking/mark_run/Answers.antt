@@ -1,6 +1,6 @@
 use Rattle.std.proofs.Common.{◌-◌, inr, arith}
 use Rattle.survey.proofs.Markings.{mark_more, mark_one}
-use Rattle.survey.proofs.Within.{upto_none, upto_in, upto_out}
+use Rattle.rules.proofs.Runs.{upto_none, upto_in, upto_out}
 use Rattle.survey.proofs.marking.mark_run.Goals as goal
 
 pub loop-k-init : goal.loop-k-init

@@ -3,8 +3,10 @@ use Rattle.std.proofs.lemmas.Bool.{cases_lt}
 use Rattle.layout.specs.Descriptor.{segment, upto, extent}
 use Rattle.layout.specs.declared.segment.Segment.{Segment}
 use Rattle.rules.specs.Nodes.{times}
-use Rattle.survey.proofs.Extents.{rest, rest_end}
-use Rattle.survey.proofs.Within.{entry_has, upto_has, split_times}
+use Rattle.descriptors.proofs.Extents.{rest, rest_end}
+use Rattle.rules.proofs.Runs.{upto_has}
+use Rattle.survey.proofs.Entries.{as_entries}
+use Rattle.survey.proofs.Within.{entry_has, split_times}
 use Rattle.survey.proofs.marking.mark_segments.Goals as goal
 
 pub mark_run-requires : goal.mark_run-requires
@@ -59,5 +61,5 @@ pub returns : goal.returns
 returns c =
     let s = c.args.descriptor.now in
     let all : c.loop-k.k ≡ c.used_entries-k-end.result = omega arith in
-    let none : (i : ℕ) → times i (extent (rest s c.loop-k.k)) ≡ 0 = λ i. ap (λ l. times i (extent l)) (ap (rest s) all ∙ rest_end s c.used_entries-k-end.result c.used_entries-k-end.ensures) in
+    let none : (i : ℕ) → times i (extent (rest s c.loop-k.k)) ≡ 0 = λ i. ap (λ l. times i (extent l)) (ap (rest s) all ∙ rest_end s c.used_entries-k-end.result (as_entries s c.used_entries-k-end.result c.used_entries-k-end.ensures)) in
     (λ i. omega (arith, none i, c.loop-k.invariant.0 i), λ i pos. c.loop-k.invariant.1 i (omega (arith, none i)))

@@ -1,7 +1,7 @@
 use Rattle.std.proofs.Common.{◌≡◌, ℕ, ◌+◌, ◌<◌, get_or}
 use Rattle.layout.specs.Descriptor.{segments, extent}
 use Rattle.rules.specs.Nodes.{times}
-use Rattle.survey.proofs.Extents.{rest}
+use Rattle.descriptors.proofs.Extents.{rest}
 use Rattle.survey.proofs.marking.mark_segments.Given as goal
 
 abbrev pub invariant-loop-k : goal.invariant-loop-k

@@ -1,7 +1,8 @@
 use Rattle.std.proofs.Common.{◌≡◌, ◌<◌, length, ap, ◌∙◌, arith}
 use Rattle.layout.specs.Descriptor.{extent}
 use Rattle.layout.specs.declared.segment.Segment.{Segment}
-use Rattle.survey.proofs.Extents.{rest, rest_end, more_held}
+use Rattle.descriptors.proofs.Extents.{rest, rest_end, more_held}
+use Rattle.survey.proofs.Entries.{as_entries}
 use Rattle.survey.proofs.places.held_sectors.Goals as goal
 
 pub loop-k-preserved : goal.loop-k-preserved
@@ -20,5 +21,5 @@ returns c =
     let s = c.args.descriptor.now in
     let u = c.used_entries-k-end.ensures in
     let all : c.loop-k.k ≡ c.used_entries-k-end.result = omega arith in
-    let none : length (extent (rest s c.loop-k.k)) ≡ 0 = ap (λ l. length (extent l)) (ap (rest s) all ∙ rest_end s c.used_entries-k-end.result u) in
+    let none : length (extent (rest s c.loop-k.k)) ≡ 0 = ap (λ l. length (extent l)) (ap (rest s) all ∙ rest_end s c.used_entries-k-end.result (as_entries s c.used_entries-k-end.result u)) in
     record { is = omega (arith, none, c.loop-k.invariant.0); few = omega (arith, c.loop-k.invariant.1, u.most) }

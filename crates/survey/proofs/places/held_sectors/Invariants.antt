@@ -1,6 +1,6 @@
 use Rattle.std.proofs.Common.{◌≡◌, ◌+◌, ◌*◌, ◌≤◌, length}
 use Rattle.layout.specs.Descriptor.{segments, extent}
-use Rattle.survey.proofs.Extents.{rest}
+use Rattle.descriptors.proofs.Extents.{rest}
 use Rattle.survey.proofs.places.held_sectors.Given as goal
 
 abbrev pub invariant-loop-k : goal.invariant-loop-k

@@ -2,7 +2,8 @@ use Rattle.std.proofs.Common.{◌≡◌, ◌<◌, sym, ap, ◌∙◌, arith}
 use Rattle.std.specs.List.{slice_get}
 use Rattle.layout.specs.Descriptor.{extent}
 use Rattle.layout.specs.declared.segment.Segment.{Segment}
-use Rattle.survey.proofs.Extents.{rest, rest_end, here, past}
+use Rattle.descriptors.proofs.Extents.{rest, rest_end, here, past}
+use Rattle.survey.proofs.Entries.{as_entries}
 use Rattle.survey.proofs.places.sector_of.Goals as goal
 
 pub returns-then-left-segment : goal.returns-then-left-segment
@@ -29,4 +30,4 @@ pub returns : goal.returns
 returns c =
     let s = c.args.descriptor.now in
     let all : c.loop-k.k ≡ c.used_entries-k-end.result = omega arith in
-    sym (ap (λ l. slice_get (extent l) c.loop-k.left) (ap (rest s) all ∙ rest_end s c.used_entries-k-end.result c.used_entries-k-end.ensures)) ∙ c.loop-k.invariant
+    sym (ap (λ l. slice_get (extent l) c.loop-k.left) (ap (rest s) all ∙ rest_end s c.used_entries-k-end.result (as_entries s c.used_entries-k-end.result c.used_entries-k-end.ensures))) ∙ c.loop-k.invariant

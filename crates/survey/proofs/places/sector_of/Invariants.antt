@@ -1,7 +1,7 @@
 use Rattle.std.proofs.Common.{◌≡◌}
 use Rattle.std.specs.List.{slice_get}
 use Rattle.layout.specs.Descriptor.{segments, extent}
-use Rattle.survey.proofs.Extents.{rest}
+use Rattle.descriptors.proofs.Extents.{rest}
 use Rattle.survey.proofs.places.sector_of.Given as goal
 
 abbrev pub invariant-loop-k : goal.invariant-loop-k

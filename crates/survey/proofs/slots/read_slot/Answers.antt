@@ -1,6 +1,6 @@
 use Rattle.std.proofs.Common.{◌/◌, arith}
 use Rattle.layout.specs.Descriptor.{segments, extent}
-use Rattle.survey.proofs.Extents.{nth-none}
+use Rattle.descriptors.proofs.Extents.{nth-none}
 use Rattle.survey.proofs.slots.read_slot.Goals as goal
 
 pub unreachable-requires : goal.unreachable-requires
