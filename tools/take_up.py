@@ -1,5 +1,5 @@
 #!/usr/bin/env python3
-"""Puts the work that lies ready in docs/unfinished over the tree.
+"""Puts the work that lies ready in docs/unfinished over the tree that it was made for, commit bc9520c.
 
 usage: python3 tools/take_up.py [FOLDER]     the repository's top, by default the one that this script lies in
 

@@ -6,6 +6,7 @@ use Rattle.devices.specs.declared.flat.FlatImage.{FlatImage}
 use Rattle.volume.specs.Formatting.{Lawful, Formatted, Fresh, FormatRefuses}
 use Rattle.volume.specs.NewLayout.{NewLayout}
 use Rattle.volume.specs.NewVolume.{root_of}
+use Rattle.volume.specs.declared.fault.VolumeFault.{VolumeFault}
 use Rattle.volume.specs.declared.volume_record.Volume.{Volume}
 use Rattle.files.specs.declared.call_fault.CallFault.TheVariants as call
 use Rattle.console.specs.declared.image.NewImage.{NewImage}
@@ -27,6 +28,10 @@ pub record Made (T : ℕ) (name : List ℕ) (a : ℕ) (i : FlatImage) (v : Volum
   pub formatted : Formatted (blank T) (image_meaning i) T name
   pub layout : NewLayout (blank T) (image_meaning i).sector T name
   pub fresh : Fresh v T (root_of T) a
+
+-- a refusal of format's, as the refusal of a new image
+abbrev pub of_format : VolumeFault → ImageFault
+of_format f = Call (call.Volume f)
 
 -- a refusal is format's; want of memory may refuse too
 abbrev pub ImageRefuses : ℕ → List ℕ → ℕ → ImageFault → Type 0

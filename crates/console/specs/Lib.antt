@@ -1,4 +1,3 @@
 pub mod Commands
 pub mod Images
-pub mod Refusals
 pub mod Summaries

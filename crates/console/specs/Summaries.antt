@@ -18,11 +18,11 @@ pub record IdentificationFields (s : List ℕ) (i : Identification) : Type 0 whe
   pub map_bytes_are : i.map_bytes ≡ map_bytes s
   pub cluster_size_is : i.cluster_size ≡ cluster_size s
   pub root_is : i.root ≡ root s
-  pub attribute_is : i.attribute ≡ volume_attribute s
+  pub attribute_is : i.attribute.0 ≡ volume_attribute s
   pub name_is : i.name ≡ take 32 (drop 31 s)
 
 pub record RootFields (s : List ℕ) (r : RootDescriptor) : Type 0 where
-  pub attribute_is : r.attribute ≡ attribute s
+  pub attribute_is : r.attribute.0 ≡ attribute s
   pub links_are : r.link_count ≡ link_count s
   pub size_is : r.size ≡ size s
   pub segment_is : r.segment ≡ segment s 0

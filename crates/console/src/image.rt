@@ -1,5 +1,6 @@
 ghost use Rattle.std.specs.Prelude.{◌≡◌, ◌*◌, ◌≤◌, IfOk, vec_len};
-ghost use Rattle.console.specs.Images.{blank, image_meaning, ImageDone};
+ghost use Rattle.console.specs.Images.{blank, image_meaning, of_format, ImageDone};
+ghost use Rattle.console.specs.declared.image.ImageFault.TheVariants.{Call, Memory};
 
 use devices::device::SECTOR;
 use devices::flat::FlatImage;
@@ -10,10 +11,34 @@ use volume::format::format;
 use volume::volume_record::Volume;
 
 // Why no image was made: the call was refused, or there was no memory for its bytes.
-#[derive(Clone, Copy)]
+#[derive(Clone, Copy, PartialEq, Eq, Debug)]
 pub enum ImageFault {
     Call(CallFault),
     Memory,
+}
+
+impl From<AllocError> for ImageFault {
+    ghost from_gives = { λ _ y. y ≡ Memory };
+
+    fn from(_: AllocError) -> ImageFault {
+        ImageFault::Memory
+    }
+}
+
+impl From<CallFault> for ImageFault {
+    ghost from_gives = { λ x y. y ≡ Call x };
+
+    fn from(value: CallFault) -> ImageFault {
+        ImageFault::Call(value)
+    }
+}
+
+impl From<VolumeFault> for ImageFault {
+    ghost from_gives = { λ x y. y ≡ of_format x };
+
+    fn from(value: VolumeFault) -> ImageFault {
+        ImageFault::Call(CallFault::from(value))
+    }
 }
 
 // An image that a new volume fills, and the volume's record.
@@ -45,11 +70,7 @@ pub fn make_image(
 ) -> Result<NewImage, ImageFault>
     ensures { ImageDone sectors name.now allocation result }
 {
-    let Ok(mut image) = blank_image(heap, sectors.min(MOST)) else {
-        return Err(ImageFault::Memory);
-    };
-    match format(&mut image, sectors, name, allocation) {
-        Ok(volume) => Ok(NewImage { image, volume }),
-        Err(fault) => Err(ImageFault::Call(CallFault::from(fault))),
-    }
+    let mut image = blank_image(heap, sectors.min(MOST))?;
+    let volume = format(&mut image, sectors, name, allocation)?;
+    Ok(NewImage { image, volume })
 }

@@ -1,39 +1,25 @@
 ghost use Rattle.std.specs.Prelude.{◌≡◌, IfOk, string_bytes};
-ghost use Rattle.console.specs.Refusals.{layer_word, line_text, refusal_text};
+ghost use Rattle.files.specs.CallFaults.{refusal_text};
+ghost use Rattle.volume.specs.Faults.{layer_word};
 
 use devices::device::Cause;
 use files::call_fault::CallFault;
 use std::alloc::{AllocError, Global};
 use volume::fault::{Layer, VolumeFault, VolumeRefusal};
 
-// The name of a layer in a refusal's line.
+// The name of a layer in a refusal's line, for a caller who compares it. A layer prints the same.
 pub fn layer_name(layer: Layer) -> &'static str
     ensures { result.now ≡ layer_word layer }
 {
-    match layer {
-        Layer::Devices => "devices",
-        Layer::Volume => "volume",
-        Layer::Files => "files",
-        Layer::Pathlists => "pathlists",
-    }
-}
-
-fn line_of(heap: Global, number: u8, place: usize, layer: &str) -> Result<String, AllocError>
-    ensures { IfOk result (λ s. string_bytes s ≡ line_text number place layer.now) }
-{
-    format!(in heap; "refused {number} {place} {layer}")
+    layer.name()
 }
 
 // The line that scripts read: `refused NUMBER PLACE LAYER`.
+// It is for a caller who wants it in memory of its own; one who prints a fault needs no more than the fault.
 pub fn refusal_line(heap: Global, fault: CallFault) -> Result<String, AllocError>
     ensures { IfOk result (λ s. string_bytes s ≡ refusal_text fault) }
 {
-    line_of(
-        heap,
-        fault.number(),
-        fault.place(),
-        layer_name(fault.layer()),
-    )
+    fault.to_string(heap)
 }
 
 // What a refusal means, for people.

@@ -1,8 +1,9 @@
 ghost use Rattle.std.specs.Prelude.{◌≡◌};
 ghost use Rattle.console.specs.Summaries.{IdentificationFields, RootFields, Summarized};
 
-use devices::device::{Device, SECTOR};
+use devices::device::{Device, Sector};
 use files::call_fault::CallFault;
+use layout::attribute::Attribute;
 use layout::descriptor::segment_at;
 use layout::directory_entry::DirectoryEntry;
 use layout::numbers::number_at;
@@ -15,27 +16,27 @@ use volume::sectors::load;
 use volume::volume_record::Volume;
 
 // The fields of an identification sector.
-#[derive(Clone, Copy)]
+#[derive(Clone, Copy, PartialEq, Eq, Debug)]
 pub struct Identification {
     pub total: usize,
     pub map_bytes: usize,
     pub cluster_size: usize,
     pub root: usize,
-    pub attribute: usize,
+    pub attribute: Attribute,
     pub name: [u8; 32],
 }
 
 // The fields of a descriptor that a new volume sets.
-#[derive(Clone, Copy)]
+#[derive(Clone, Copy, PartialEq, Eq, Debug)]
 pub struct RootDescriptor {
-    pub attribute: usize,
+    pub attribute: Attribute,
     pub link_count: usize,
     pub size: usize,
     pub segment: Segment,
 }
 
 // What the sectors of a new volume hold, as they are read back.
-#[derive(Clone, Copy)]
+#[derive(Clone, Copy, PartialEq, Eq, Debug)]
 pub struct Summary {
     pub identification: Identification,
     pub clear: usize,
@@ -44,7 +45,8 @@ pub struct Summary {
     pub up: StoredSlot,
 }
 
-fn identification_of(sector: &[u8; SECTOR]) -> Identification
+#[tactic(auto, unfolding(layout::specs::Bytes::number))]
+fn identification_of(sector: &Sector) -> Identification
     ensures { IdentificationFields sector.now result }
 {
     let mut name = [0u8; 32];
@@ -54,16 +56,17 @@ fn identification_of(sector: &[u8; SECTOR]) -> Identification
         map_bytes: number_at(sector, 0x04, 2),
         cluster_size: number_at(sector, 0x06, 2),
         root: number_at(sector, 0x08, 3),
-        attribute: number_at(sector, 0x0D, 1),
+        attribute: Attribute(sector[0x0D]),
         name,
     }
 }
 
-fn root_of(sector: &[u8; SECTOR]) -> RootDescriptor
+#[tactic(auto, unfolding(layout::specs::Bytes::number))]
+fn root_of(sector: &Sector) -> RootDescriptor
     ensures { RootFields sector.now result }
 {
     RootDescriptor {
-        attribute: number_at(sector, 0, 1),
+        attribute: Attribute(sector[0]),
         link_count: number_at(sector, 8, 1),
         size: number_at(sector, 9, 4),
         segment: segment_at(sector, 0),

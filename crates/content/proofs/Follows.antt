@@ -1,24 +1,20 @@
 -- What becomes of a file's bytes when its sectors, its size or its segments change.
-use Rattle.std.proofs.Common.{◌≡◌, ℕ, ◌+◌, ◌-◌, ◌*◌, ◌/◌, ◌<◌, ◌≤◌, max, false, List, [], ◌∷◌, ◌++◌, length, get_or, take, drop, sym, refl, ap, ◌∙◌, subst, ap₂, arith, length-append}
-use Rattle.std.specs.List.{flat_map}
-use Rattle.std.proofs.lemmas.List.{append_assoc, take-append-drop, take-append-le, take_all, take-take, length-take-le, get_or-take, get_or_append_left, length-take}
+use Rattle.std.proofs.Common.{◌≡◌, ℕ, ◌+◌, ◌-◌, ◌*◌, ◌/◌, ◌<◌, ◌≤◌, max, false, List, ◌++◌, length, get_or, take, drop, sym, refl, ap, ◌∙◌, subst, ap₂, arith, length-append}
+use Rattle.std.proofs.lemmas.List.{take-append-drop, take-append-le, take_all, take-take, length-take-le, get_or-take, get_or_append_left, length-take}
 use Rattle.std.proofs.lemmas.Slice.{between_is}
 use Rattle.std.proofs.lemmas.Bool.{both_ways}
+use Rattle.std.proofs.lemmas.Grind.{flat_map-append}
 use Rattle.devices.specs.Meaning.{Meaning, Whole, Kept, Fails}
 use Rattle.devices.specs.declared.device.Cause.{Cause}
 use Rattle.devices.specs.declared.device.Cause.TheVariants.{Length, Range, Bad}
 use Rattle.layout.specs.Bytes.{over}
 use Rattle.layout.specs.Descriptor.{size, content}
+use Rattle.descriptors.proofs.Blocks as blocks
 use Rattle.descriptors.proofs.Blocks.{length-row}
 use Rattle.descriptors.proofs.Cutting.{take_through}
 use Rattle.content.specs.Laws.{ContentLength, ContentWritten, ContentGrown, ContentShrunk, ContentCut, ContentKept, ContentBeside, NeverRefused}
 use Rattle.content.specs.Rows.{sectors, row, Within, Outside, Beside}
 use Rattle.content.proofs.WriteSteps.{same_row}
-
--- the bytes of one list of sectors and then another
-pub row_append : (f : ℕ → List ℕ) (xs ys : List ℕ) → flat_map f (xs ++ ys) ≡ flat_map f xs ++ flat_map f ys
-row_append f [] ys = refl
-row_append f (x ∷ xs) ys = ap (λ l. f x ++ l) (row_append f xs ys) ∙ sym (append_assoc (f x) (flat_map f xs) (flat_map f ys))
 
 -- sectors on the device, each of 256 bytes
 pub row_length : (m : Meaning) (e : List ℕ) → Whole m → Within m e → length (row m e) ≡ length e * 256
@@ -26,7 +22,7 @@ row_length m e whole within = length-row m.sector 256 e (λ i lt. whole (get_or 
 
 -- bytes that lie in the first of two lists of sectors
 pub row_front : (m : Meaning) (e more : List ℕ) (n : ℕ) → n ≤ length (row m e) → take n (row m (e ++ more)) ≡ take n (row m e)
-row_front m e more n le = ap (take n) (row_append m.sector e more) ∙ take-append-le n (row m e) (row m more) le
+row_front m e more n le = ap (take n) (flat_map-append m.sector e more) ∙ take-append-le n (row m e) (row m more) le
 
 -- the first n sectors
 pub row_first : (m : Meaning) (e : List ℕ) (n k : ℕ) → Whole m → Within m e → k ≤ 256 * n → k ≤ 256 * length e → take k (row m (take n e)) ≡ take k (row m e)
@@ -49,7 +45,7 @@ over_content size p bs xs lo hi =
     (ap (λ k. take k (drop (p + length bs) xs)) e2 ∙ between_is xs (p + length bs) size))
 
 pub content-length : ContentLength
-content-length m s h = length-take-le (size s) (row m (sectors s)) (omega (arith, row_length m (sectors s) h.whole h.within, h.held))
+content-length m s h = blocks.content-length m.sector s (λ i lt. h.whole (get_or (sectors s) i 0) (h.within i lt)) h.held
 
 -- the front of a list of sectors lies where the list does
 pub within_front : (m : Meaning) (e more : List ℕ) → Within m (e ++ more) → Within m e

@@ -1,4 +1,5 @@
 pub mod Follows
+pub mod PartSteps
 pub mod ReadSteps
 pub mod SlotsRead
 pub mod WriteSteps

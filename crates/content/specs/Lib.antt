@@ -1,4 +1,5 @@
 pub mod Laws
+pub mod Parts
 pub mod Reading
 pub mod Rows
 pub mod Slots

@@ -3,7 +3,8 @@
 #![tactic(auto)]
 
 pub mod content_laws;
-pub mod parts;
+mod file_parts;
 pub mod read_bytes;
+mod sector_parts;
 pub mod slots;
 pub mod write_bytes;

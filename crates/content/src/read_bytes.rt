@@ -1,13 +1,14 @@
 ghost use Rattle.std.specs.Prelude.{◌≡◌, ◌^◌, ◌<◌};
 ghost use Rattle.content.specs.Reading.{readable as ReadableOf, ReadAt};
 
-use super::parts::read_part;
-use descriptors::places::{held_sectors, sector_of};
-use devices::device::{Device, DeviceFault, SECTOR};
+use super::file_parts::FileParts;
+use super::sector_parts::read_part;
+use descriptors::places::held_sectors;
+use devices::device::{Device, DeviceFault, SECTOR, Sector};
 use layout::numbers::number_at;
 
 // How many bytes a file has to read: its size, but no more than its sectors hold.
-fn readable(descriptor: &[u8; SECTOR]) -> usize
+fn readable(descriptor: &Sector) -> usize
     ensures is { result ≡ ReadableOf descriptor.now }
     ensures fits { result < 2 ^ 32 }
 {
@@ -18,7 +19,7 @@ fn readable(descriptor: &[u8; SECTOR]) -> usize
 // Reads from a file at a position, as much as the buffer takes and the file has left. The bytes behind are as they were.
 pub fn read_at<D: Device>(
     device: &D,
-    descriptor: &[u8; SECTOR],
+    descriptor: &Sector,
     position: usize,
     buffer: &mut [u8],
 ) -> Result<usize, DeviceFault>
@@ -26,16 +27,8 @@ pub fn read_at<D: Device>(
 {
     let left = readable(descriptor).saturating_sub(position);
     let wanted = buffer.len().min(left);
-    let mut done = 0;
-    while done < wanted {
-        let at = position + done;
-        let Some(lsn) = sector_of(descriptor, at / SECTOR) else {
-            unreachable()
-        };
-        let from = at % SECTOR;
-        let end = wanted.min(done + (SECTOR - from));
-        read_part(device, lsn, from, &mut buffer[done..end])?;
-        done = end;
+    for part in FileParts::of(descriptor, position, wanted) {
+        read_part(device, part.lsn, part.from, &mut buffer[part.bytes])?;
     }
     Ok(wanted)
 }

@@ -2,14 +2,14 @@ ghost use Rattle.std.specs.Prelude.{◌≡◌, ◌+◌, ◌*◌, ◌≤◌, leng
 ghost use Rattle.content.specs.Rows.{sectors};
 ghost use Rattle.content.specs.Writing.{WriteAt};
 
-use super::parts::write_part;
-use descriptors::places::sector_of;
-use devices::device::{Device, DeviceFault, SECTOR};
+use super::file_parts::FileParts;
+use super::sector_parts::write_part;
+use devices::device::{Device, DeviceFault, Sector};
 
 // Writes into the sectors that a file holds, at a position, sector after sector.
 pub fn write_at<D: Device>(
     device: &mut D,
-    descriptor: &[u8; SECTOR],
+    descriptor: &Sector,
     position: usize,
     bytes: &[u8],
 ) -> Result<(), DeviceFault>
@@ -17,16 +17,8 @@ pub fn write_at<D: Device>(
     ensures done { WriteAt (D.Device.meaning device.old) (D.Device.meaning device.new) (sectors descriptor.now) position bytes.now result }
     ensures beside { D.Device.aside device.new ≡ D.Device.aside device.old }
 {
-    let mut done = 0;
-    while done < bytes.len() {
-        let at = position + done;
-        let Some(lsn) = sector_of(descriptor, at / SECTOR) else {
-            unreachable()
-        };
-        let from = at % SECTOR;
-        let end = bytes.len().min(done + (SECTOR - from));
-        write_part(device, lsn, from, &bytes[done..end])?;
-        done = end;
+    for part in FileParts::of(descriptor, position, bytes.len()) {
+        write_part(device, part.lsn, part.from, &bytes[part.bytes])?;
     }
     Ok(())
 }

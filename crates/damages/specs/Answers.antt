@@ -1,20 +1,11 @@
 -- What a survey answers, as a line of text.
-use Rattle.std.specs.Prelude.{ℕ, List, ◌++◌, codes, decimal}
+use Rattle.std.specs.Prelude.{ℕ, List, ◌++◌, Ok, Err, Result, codes, decimal}
 use Rattle.std.proofs.Math.Utf8.{encode}
 use Rattle.rules.specs.Letters.{letter}
-use Rattle.volume.specs.Faults.{number_of, place_of, layer_of}
-use Rattle.volume.specs.declared.fault.Layer.{Layer}
-use Rattle.volume.specs.declared.fault.Layer.TheVariants.{Devices, Volume, Files, Pathlists}
+use Rattle.volume.specs.Faults.{layer_word, number_of, place_of, layer_of}
 use Rattle.volume.specs.declared.fault.VolumeFault.{VolumeFault}
 use Rattle.volume.specs.declared.fault.VolumeFault.TheVariants.{Device, Refused, Broken}
-use Rattle.damages.specs.declared.answer.Answer.{Answer}
-use Rattle.damages.specs.declared.answer.Answer.TheVariants as answer
-
-abbrev pub layer_word : Layer → List ℕ
-layer_word Devices = codes "devices"
-layer_word Volume = codes "volume"
-layer_word Files = codes "files"
-layer_word Pathlists = codes "pathlists"
+use Rattle.damages.specs.declared.answer.Passed.{Passed}
 
 -- "LABEL: refused NUMBER PLACE LAYER"
 abbrev pub line_text : List ℕ → ℕ → ℕ → List ℕ → List ℕ
@@ -30,6 +21,6 @@ refusal_text label (Refused n p) = line_text label (number_of (Refused n p)) (pl
 refusal_text label (Broken rule at) = broken_text label at (letter rule)
 
 -- "LABEL: passed T ROOT"
-abbrev pub answer_text : List ℕ → Answer → List ℕ
-answer_text label (answer.Passed total root) = label ++ (codes ": passed " ++ (decimal total ++ (codes " " ++ decimal root)))
-answer_text label (answer.Refused f) = refusal_text label f
+abbrev pub answer_text : List ℕ → Result Passed VolumeFault → List ℕ
+answer_text label (Ok p) = label ++ (codes ": passed " ++ (decimal p.total ++ (codes " " ++ decimal p.root)))
+answer_text label (Err f) = refusal_text label f

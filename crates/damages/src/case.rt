@@ -1,5 +1,6 @@
 use super::change::change_bytes;
 use std::alloc::{AllocError, AllocFailed, Global};
+use std::num::{ParseIntError, TryFromIntError};
 
 // A damaged copy of a volume, the sectors of it that are bad, and how it is surveyed.
 #[derive(Drop)]
@@ -10,7 +11,7 @@ pub struct Case {
 }
 
 // The arguments of a survey: the allocation size, and the lengths of the work lists (the device's sectors, where none is given).
-#[derive(Clone, Copy)]
+#[derive(Clone, Copy, PartialEq, Eq, Debug)]
 pub struct Asked {
     pub allocation: usize,
     pub marks: Option<usize>,
@@ -18,7 +19,7 @@ pub struct Asked {
 }
 
 // Why a case was not tried: there was no memory, or a word is none of a case's.
-#[derive(Clone, Copy)]
+#[derive(Clone, Copy, PartialEq, Eq, Debug)]
 pub enum CaseFault {
     Memory,
     Word,
@@ -36,15 +37,25 @@ impl<T: Drop> From<AllocFailed<T>> for CaseFault {
     }
 }
 
+impl From<ParseIntError> for CaseFault {
+    fn from(_: ParseIntError) -> CaseFault {
+        CaseFault::Word
+    }
+}
+
+impl From<TryFromIntError> for CaseFault {
+    fn from(_: TryFromIntError) -> CaseFault {
+        CaseFault::Word
+    }
+}
+
 // The most sectors that a case can ask for.
 const MOST: usize = 65537;
 
 impl Case {
     // Takes in an option, NAME=NUMBER.
     fn set_option(&mut self, name: &str, value: &str) -> Result<(), CaseFault> {
-        let Ok(number) = value.parse::<usize>() else {
-            return Err(CaseFault::Word);
-        };
+        let number = value.parse::<usize>()?;
         match name {
             "allocation" => self.asked.allocation = number,
             "marks" => self.asked.marks = Some(number),

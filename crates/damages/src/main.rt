@@ -9,7 +9,7 @@ mod trial;
 
 use answer::answer_line;
 use anyhow::anyhow;
-use case::{Case, CaseFault, read_case};
+use case::{CaseFault, read_case};
 use std::io::{BufRead, BufReader};
 use std::{env, fs};
 use trial::try_case;
@@ -22,11 +22,7 @@ sectors=N (the copy is cut or made longer), bad=LSN (the copy is a tray), alloca
 // Reads a case and surveys it.
 fn answer_case(rt: &HostRuntime, base: &[u8], label: &str, words: &str) -> anyhow::Result<()> {
     let heap = rt.alloc();
-    let answer = match read_case(heap, base, words) {
-        Ok(case) => try_case(heap, case),
-        Err(fault) => Err(fault),
-    };
-    match answer {
+    match read_case(heap, base, words).and_then(|case| try_case(heap, case)) {
         Ok(answer) => {
             let line = answer_line(heap, label, answer)?;
             println!(rt; "{line}")?;

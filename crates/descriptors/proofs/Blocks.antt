@@ -2,6 +2,7 @@
 use Rattle.std.proofs.Common.{◌≡◌, ℕ, zero, suc, ◌+◌, ◌*◌, ◌/◌, ◌%◌, ◌<◌, ◌≤◌, List, [], ◌∷◌, ◌++◌, length, get_or, take, drop, Some, sym, ap, ◌∙◌, suc-mul, zero-add, zero-mul, arith, length-append, length-drop}
 use Rattle.std.specs.List.{flat_map, slice_get}
 use Rattle.std.proofs.lemmas.List.{take-append-le, drop-append-le, drop-drop, drop_at, length-take-le}
+use Rattle.std.proofs.lemmas.Option.{slice_get_within, get_or_from_slice_get}
 use Rattle.layout.specs.Descriptor.{size, segments, extent, content}
 use Rattle.layout.specs.Records.{record_at}
 use Rattle.layout.proofs.Rows.{record_take}
@@ -11,9 +12,7 @@ abbrev pub Wide : (ℕ → List ℕ) → ℕ → List ℕ → Type 0
 Wide f w e = (i : ℕ) → i < length e → length (f (get_or e i 0)) ≡ w
 
 pub nth_some : (xs : List ℕ) (i x : ℕ) → slice_get xs i ≡ Some x → (i < length xs) × (x ≡ get_or xs i 0)
-nth_some [] i x e = absurd (let z : ◌≡◌ {A = ℕ} 0 1 = cc in omega arith)
-nth_some (y ∷ xs) zero x e = (omega arith, cc)
-nth_some (y ∷ xs) (suc i) x e = let r = nth_some xs i x e in (omega (arith, r.0), r.1)
+nth_some xs i x e = (slice_get_within xs i x e, sym (get_or_from_slice_get xs i x 0 e))
 
 -- a part of one sector is a part of the row
 pub block : (f : ℕ → List ℕ) (w : ℕ) (e : List ℕ) (i o n : ℕ) → Wide f w e → i < length e → o + n ≤ w → take n (drop (i * w + o) (flat_map f e)) ≡ take n (drop o (f (get_or e i 0)))

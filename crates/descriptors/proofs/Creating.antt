@@ -5,20 +5,18 @@ use Rattle.layout.specs.Bytes.{bytes, over}
 use Rattle.layout.specs.declared.segment.Segment.{Segment}
 use Rattle.layout.specs.Digits.{length-bytes, number_over, number_below}
 use Rattle.layout.specs.Overs.{length_over}
-use Rattle.descriptors.specs.Created.{new_descriptor, new_shown}
+use Rattle.descriptors.specs.Created.{new_shown}
 use Rattle.descriptors.specs.declared.heading.Heading.{Heading}
-use Rattle.descriptors.specs.Shown.{shown}
-use Rattle.descriptors.specs.Stored.{AllStorable, stored}
+use Rattle.descriptors.specs.Shown.{shown, with_segments}
 use Rattle.descriptors.proofs.Laid.{part_below, part_in}
 use Rattle.descriptors.proofs.Showings.{shown_by}
-use Rattle.descriptors.proofs.Storing.{stored_length, segments_are}
 
 -- a number of one byte
-one_byte : (n : ℕ) → n < 256 → n ∷ [] ≡ bytes 1 n
+pub one_byte : (n : ℕ) → n < 256 → n ∷ [] ≡ bytes 1 n
 unfolding bytes
 one_byte n small = let e : n ≡ n % 256 = omega arith in ap (λ k. k ∷ []) e
 
-module _ (h : Heading) (n : ℕ) (ss : List Segment) (byte : h.attribute < 256) (word : h.owner < 65536) (five : length h.modified ≡ 5) (three : length h.created ≡ 3) (small : n < 2 ^ 32) (few : length ss ≤ 48) (all : AllStorable ss) where
+module _ (h : Heading) (n : ℕ) (ss : List Segment) (byte : h.attribute < 256) (word : h.owner < 65536) (five : length h.modified ≡ 5) (three : length h.created ≡ 3) (small : n < 2 ^ 32) where
   -- the descriptor as field after field is laid
   abbrev d0 : List ℕ
   d0 = replicate 256 0
@@ -78,41 +76,28 @@ module _ (h : Heading) (n : ℕ) (ss : List Segment) (byte : h.attribute < 256) 
   f6 : 13 + length h.created ≤ length d5
   f6 = omega (arith, l5)
 
-  pub l6 : length d6 ≡ 256
-  l6 = length_over 13 h.created d5 f6 ∙ l5
-
-  f7 : 16 + length (stored ss) ≤ length d6
-  f7 = omega (arith, l6, stored_length ss few)
-
-  pub new_shows : shown (new_descriptor h n ss) ≡ new_shown h n ss
+  pub new_shows : with_segments ss (shown d6) ≡ new_shown h n ss
   new_shows =
-      let s = stored ss in
-      shown_by (over 16 s d6) (new_shown h n ss)
-      (number_below 16 s d6 f7 0 1 (omega arith)
-      ∙ number_below 13 h.created d5 f6 0 1 (omega arith)
+      shown_by (with_segments ss (shown d6)) (new_shown h n ss)
+      (number_below 13 h.created d5 f6 0 1 (omega arith)
       ∙ number_below 9 (bytes 4 n) d4 f5 0 1 (omega arith)
       ∙ number_below 8 (1 ∷ []) d3 f4 0 1 (omega arith)
       ∙ number_below 3 h.modified d2 f3 0 1 (omega arith)
       ∙ number_below 1 (bytes 2 h.owner) d1 f2 0 1 (omega arith)
       ∙ number_over 0 (h.attribute ∷ []) d0 f1 1 h.attribute (one_byte h.attribute byte) (omega arith))
-      (number_below 16 s d6 f7 1 2 (omega arith)
-      ∙ number_below 13 h.created d5 f6 1 2 (omega arith)
+      (number_below 13 h.created d5 f6 1 2 (omega arith)
       ∙ number_below 9 (bytes 4 n) d4 f5 1 2 (omega arith)
       ∙ number_below 8 (1 ∷ []) d3 f4 1 2 (omega arith)
       ∙ number_below 3 h.modified d2 f3 1 2 (omega arith)
       ∙ number_over 1 (bytes 2 h.owner) d1 f2 2 h.owner refl (omega arith))
-      (part_below 16 s d6 f7 3 5 (omega arith)
-      ∙ part_below 13 h.created d5 f6 3 5 (omega arith)
+      (part_below 13 h.created d5 f6 3 5 (omega arith)
       ∙ part_below 9 (bytes 4 n) d4 f5 3 5 (omega arith)
       ∙ part_below 8 (1 ∷ []) d3 f4 3 5 (omega arith)
       ∙ part_in 3 h.modified d2 f3 5 five)
-      (number_below 16 s d6 f7 8 1 (omega arith)
-      ∙ number_below 13 h.created d5 f6 8 1 (omega arith)
+      (number_below 13 h.created d5 f6 8 1 (omega arith)
       ∙ number_below 9 (bytes 4 n) d4 f5 8 1 (omega arith)
       ∙ number_over 8 (1 ∷ []) d3 f4 1 1 (one_byte 1 (omega arith)) (omega arith))
-      (number_below 16 s d6 f7 9 4 (omega arith)
-      ∙ number_below 13 h.created d5 f6 9 4 (omega arith)
+      (number_below 13 h.created d5 f6 9 4 (omega arith)
       ∙ number_over 9 (bytes 4 n) d4 f5 4 n refl (omega arith))
-      (part_below 16 s d6 f7 13 3 (omega arith)
-      ∙ part_in 13 h.created d5 f6 3 three)
-      (segments_are ss few all d6 l6)
+      (part_in 13 h.created d5 f6 3 three)
+      refl

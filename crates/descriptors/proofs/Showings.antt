@@ -1,7 +1,6 @@
 -- What a descriptor shows after bytes were laid over one of its fields.
 use Rattle.std.proofs.Common.{◌≡◌, ℕ, ◌+◌, ◌^◌, ◌<◌, ◌≤◌, List, length, refl, ap, ◌∙◌, ap₂, arith}
 use Rattle.layout.specs.Bytes.{bytes, over}
-use Rattle.layout.specs.Descriptor as layout
 use Rattle.layout.specs.declared.segment.Segment.{Segment}
 use Rattle.layout.specs.Digits.{length-bytes, number_over, number_below, number_above}
 use Rattle.descriptors.specs.Shown.{Shown, shown, with_size, with_date, with_segments, SameEntries}
@@ -13,15 +12,15 @@ use Rattle.descriptors.proofs.Storing.{stored_length, segments_are}
 abbrev make : ℕ → ℕ → List ℕ → ℕ → ℕ → List ℕ → List Segment → Shown
 make a o m l n c ss = record { attribute = a; owner = o; modified = m; links = l; size = n; created = c; segments = ss }
 
-pub shown_by : (s : List ℕ) (f : Shown)
-    → layout.attribute s ≡ f.attribute → layout.owner s ≡ f.owner → layout.modified s ≡ f.modified → layout.link_count s ≡ f.links → layout.size s ≡ f.size → layout.created s ≡ f.created → layout.segments s ≡ f.segments
-    → shown s ≡ f
-shown_by s f a o m l n c ss =
-    ap (λ x. make x (layout.owner s) (layout.modified s) (layout.link_count s) (layout.size s) (layout.created s) (layout.segments s)) a
-    ∙ ap (λ x. make f.attribute x (layout.modified s) (layout.link_count s) (layout.size s) (layout.created s) (layout.segments s)) o
-    ∙ ap (λ x. make f.attribute f.owner x (layout.link_count s) (layout.size s) (layout.created s) (layout.segments s)) m
-    ∙ ap (λ x. make f.attribute f.owner f.modified x (layout.size s) (layout.created s) (layout.segments s)) l
-    ∙ ap (λ x. make f.attribute f.owner f.modified f.links x (layout.created s) (layout.segments s)) n
+pub shown_by : (e f : Shown)
+    → e.attribute ≡ f.attribute → e.owner ≡ f.owner → e.modified ≡ f.modified → e.links ≡ f.links → e.size ≡ f.size → e.created ≡ f.created → e.segments ≡ f.segments
+    → e ≡ f
+shown_by e f a o m l n c ss =
+    ap (λ x. make x e.owner e.modified e.links e.size e.created e.segments) a
+    ∙ ap (λ x. make f.attribute x e.modified e.links e.size e.created e.segments) o
+    ∙ ap (λ x. make f.attribute f.owner x e.links e.size e.created e.segments) m
+    ∙ ap (λ x. make f.attribute f.owner f.modified x e.size e.created e.segments) l
+    ∙ ap (λ x. make f.attribute f.owner f.modified f.links x e.created e.segments) n
     ∙ ap₂ (λ x y. make f.attribute f.owner f.modified f.links f.size x y) c ss
 
 module _ (xs : List ℕ) (wide : length xs ≡ 256) where
@@ -35,7 +34,7 @@ module _ (xs : List ℕ) (wide : length xs ≡ 256) where
         let fits = size_fits in
         let bs = bytes 4 n in
         let after = length-bytes 4 n in
-        shown_by (over 9 bs xs) (with_size n (shown xs))
+        shown_by (shown (over 9 bs xs)) (with_size n (shown xs))
         (number_below 9 bs xs fits 0 1 (omega arith))
         (number_below 9 bs xs fits 1 2 (omega arith))
         (part_below 9 bs xs fits 3 5 (omega arith))
@@ -55,7 +54,7 @@ module _ (xs : List ℕ) (wide : length xs ≡ 256) where
     pub date_shown : shown (over 3 date xs) ≡ with_date date (shown xs)
     date_shown =
         let fits = date_fits in
-        shown_by (over 3 date xs) (with_date date (shown xs))
+        shown_by (shown (over 3 date xs)) (with_date date (shown xs))
         (number_below 3 date xs fits 0 1 (omega arith))
         (number_below 3 date xs fits 1 2 (omega arith))
         (part_in 3 date xs fits 5 five)
@@ -73,7 +72,7 @@ module _ (xs : List ℕ) (wide : length xs ≡ 256) where
     segments_shown =
         let bs = stored ss in
         let fits : 16 + length bs ≤ length xs = omega (arith, stored_length ss few) in
-        shown_by (over 16 bs xs) (with_segments ss (shown xs))
+        shown_by (shown (over 16 bs xs)) (with_segments ss (shown xs))
         (number_below 16 bs xs fits 0 1 (omega arith))
         (number_below 16 bs xs fits 1 2 (omega arith))
         (part_below 16 bs xs fits 3 5 (omega arith))

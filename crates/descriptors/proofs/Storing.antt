@@ -1,21 +1,18 @@
 -- A segment list in the bytes of a descriptor: written entry by entry, and read back.
-use Rattle.std.proofs.Common.{◌≡◌, ℕ, zero, suc, ◌+◌, ◌-◌, ◌*◌, ◌^◌, ◌<◌, ◌≤◌, List, [], ◌∷◌, ◌++◌, length, get_or, take, replicate, sym, refl, ap, ◌∙◌, ap₂, inl, inr, arith, length-append, eq-eqb, ne_eqb}
+use Rattle.std.proofs.Common.{◌≡◌, ℕ, zero, suc, ◌+◌, ◌-◌, ◌*◌, ◌^◌, ◌<◌, ◌≤◌, List, [], ◌∷◌, length, get_or, take, replicate, sym, refl, ap, ◌∙◌, ap₂, inl, inr, arith, rules, length-append, eq-eqb, ne_eqb}
 use Rattle.std.specs.List.{flat_map}
 use Rattle.std.proofs.ByRecursion.{All-get_or}
-use Rattle.std.proofs.lemmas.List.{append_assoc, length_push, flat_map_more, take_more, length-take-le, length-replicate, get_or_append_left, get_or-append_right, get_or-replicate, get_or_past, get_or-drop}
+use Rattle.std.proofs.lemmas.List.{flat_map_more, take_more, length-take-le, length-replicate, get_or_append_left, get_or-append_right, get_or-replicate, get_or_past, get_or-drop}
+use Rattle.std.proofs.lemmas.List.Concat.{get_or-flat_map}
 use Rattle.std.proofs.lemmas.Bool.{cases_lt}
-use Rattle.layout.specs.Bytes.{bytes, over}
+use Rattle.layout.specs.Bytes.{number, bytes, over}
 use Rattle.layout.specs.Descriptor.{segment_of, segment_bytes, segment, used, segments}
 use Rattle.layout.specs.declared.segment.Segment.{Segment}
-use Rattle.layout.specs.Digits.{length-bytes, number_same, number_bytes}
 use Rattle.layout.specs.Overs.{over_in, over_over}
 use Rattle.layout.proofs.Segments.{length-segment, segment_same}
-use Rattle.descriptors.specs.declared.segment_list.SegmentList.{SegmentList}
-use Rattle.descriptors.specs.Lists.{nowhere, listed}
+use Rattle.descriptors.specs.Lists.{nowhere}
 use Rattle.descriptors.specs.Shown.{SameEntries, TidyEntries}
 use Rattle.descriptors.specs.Stored.{Storable, AllStorable, entries_of, stored}
-use Rattle.descriptors.proofs.Extents.{rest, rest_more}
-use Rattle.descriptors.proofs.ListLaws.{listed_length}
 
 pub length_joined : (ss : List Segment) → length (flat_map segment_bytes ss) ≡ length ss * 5
 length_joined [] = refl
@@ -23,24 +20,15 @@ length_joined (s ∷ ss) = length-append (segment_bytes s) (flat_map segment_byt
 
 -- the byte i of the entry k
 pub byte_joined : (ss : List Segment) (k i : ℕ) → k < length ss → i < 5 → get_or (flat_map segment_bytes ss) (k * 5 + i) 0 ≡ get_or (segment_bytes (get_or ss k nowhere)) i 0
-byte_joined [] k i h lt = absurd (omega arith)
-byte_joined (s ∷ ss) zero i h lt =
-    let at : zero * 5 + i ≡ i = omega arith in
-    ap (λ j. get_or (segment_bytes s ++ flat_map segment_bytes ss) j 0) at ∙ get_or_append_left (segment_bytes s) (flat_map segment_bytes ss) 0 i (omega (arith, length-segment s))
-byte_joined (s ∷ ss) (suc k) i h lt =
-    let at : suc k * 5 + i - 5 ≡ k * 5 + i = omega arith in
-    get_or-append_right (segment_bytes s) (flat_map segment_bytes ss) 5 (suc k * 5 + i) 0 (length-segment s) (omega arith)
-    ∙ ap (λ j. get_or (flat_map segment_bytes ss) j 0) at
-    ∙ byte_joined ss k i (omega arith) lt
+byte_joined ss k i lt five =
+    let before : length (flat_map segment_bytes (take k ss)) ≡ k * 5 = length_joined (take k ss) ∙ omega (arith, length-take-le k ss (omega arith)) in
+    ap (λ n. get_or (flat_map segment_bytes ss) (n + i) 0) (sym before)
+    ∙ get_or-flat_map segment_bytes ss k i nowhere 0 lt (omega (arith, length-segment (get_or ss k nowhere)))
 
 -- an entry is read back
 pub segment_back : (s : Segment) → s.start < 2 ^ 24 → s.len < 2 ^ 16 → segment_of (segment_bytes s) ≡ s
-unfolding segment_of
-segment_back s low short =
-    let make : ℕ → ℕ → Segment = λ a b. record { start = a; len = b } in
-    ap₂ make
-    (number_same 0 0 3 (segment_bytes s) (bytes 3 s.start) (λ k lt. get_or_append_left (bytes 3 s.start) (bytes 2 s.len) 0 (0 + k) (omega (arith, length-bytes 3 s.start))) ∙ number_bytes 3 s.start (omega arith))
-    (number_same 3 0 2 (segment_bytes s) (bytes 2 s.len) (λ k lt. let at : 3 + k - 3 ≡ 0 + k = omega arith in get_or-append_right (bytes 3 s.start) (bytes 2 s.len) 3 (3 + k) 0 (length-bytes 3 s.start) (omega arith) ∙ ap (λ j. get_or (bytes 2 s.len) j 0) at) ∙ number_bytes 2 s.len (omega arith))
+unfolding segment_of number bytes
+segment_back s low short = search rules
 
 -- the used entries, where the entries from k on are a list's segments and then unused ones
 pub used_are : (ss : List Segment) (n k : ℕ) (s : List ℕ) → AllStorable ss → length ss ≤ n → ((j : ℕ) → j < n → segment s (k + j) ≡ get_or ss j nowhere) → used s k n ≡ ss
@@ -109,29 +97,16 @@ module _ (ss : List Segment) (few : length ss ≤ 48) where
           entry_is k lt ∙ get_or_past ss k nowhere (omega arith)
 
 -- one entry more is written
-pub entry_more : (ss : List Segment) (k : ℕ) (g : Segment) (xs ys : List ℕ) → length ss ≤ 48 → k < 48 → length xs ≡ 256 → g ≡ get_or ss k nowhere
-    → ys ≡ over 16 (flat_map segment_bytes (take k (entries_of ss))) xs → over (16 + k * 5) (segment_bytes g) ys ≡ over 16 (flat_map segment_bytes (take (k + 1) (entries_of ss))) xs
-entry_more ss k g xs ys few lt wide is so_far =
-    let front = take k (entries_of ss) in
-    let long : length (flat_map segment_bytes front) ≡ k * 5 = length_joined front ∙ omega (arith, length-take-le k (entries_of ss) (omega (arith, entries_length ss few))) in
-    let last : take (k + 1) (entries_of ss) ≡ front ++ g ∷ [] = take_more (entries_of ss) k nowhere (omega (arith, entries_length ss few)) ∙ ap (λ (s : Segment). front ++ s ∷ []) (entries_at ss few k lt ∙ sym is) in
+pub entry_more : (es : List Segment) (k : ℕ) (xs ys : List ℕ) → length es ≡ 48 → k < 48 → length xs ≡ 256 → ys ≡ over 16 (flat_map segment_bytes (take k es)) xs
+    → over (16 + k * 5) (segment_bytes (get_or es k nowhere)) ys ≡ over 16 (flat_map segment_bytes (take (k + 1) es)) xs
+entry_more es k xs ys long lt wide so_far =
+    let front = take k es in
+    let g = get_or es k nowhere in
+    let joined : length (flat_map segment_bytes front) ≡ k * 5 = length_joined front ∙ omega (arith, length-take-le k es (omega (arith, long))) in
     ap (over (16 + k * 5) (segment_bytes g)) so_far
-    ∙ over_over 16 (16 + k * 5) (flat_map segment_bytes front) (segment_bytes g) xs (omega (arith, long)) (omega arith)
-    ∙ ap (λ bs. over 16 bs xs) (flat_map_more segment_bytes [] front g ∙ ap (flat_map segment_bytes) (sym last))
+    ∙ over_over 16 (16 + k * 5) (flat_map segment_bytes front) (segment_bytes g) xs (omega (arith, joined)) (omega arith)
+    ∙ ap (λ bs. over 16 bs xs) (flat_map_more segment_bytes [] front g ∙ ap (flat_map segment_bytes) (sym (take_more es k nowhere (omega (arith, long)))))
 
 -- a list of entries stays tidy while they stay
 pub tidy_same : (s s' : List ℕ) → SameEntries s s' → TidyEntries s → TidyEntries s'
 tidy_same s s' same tidy j k le lt none = same k lt ∙ tidy j k le lt (sym (ap (λ (g : Segment). g.len) (same j (omega arith))) ∙ none)
-
--- one used entry more is read
-pub read_more : (s : List ℕ) (k : ℕ) (g : Segment) (ss ss' : List Segment) → k < 48 → g ≡ segment s k → (g.len ≡ 0 → ⊥) → ss' ≡ ss ++ g ∷ [] → ss ++ rest s k ≡ segments s → ss' ++ rest s (k + 1) ≡ segments s
-read_more s k g ss ss' low is some pushed so_far =
-    let more : rest s k ≡ g ∷ rest s (k + 1) = rest_more s k low (λ z. some (ap (λ (x : Segment). x.len) is ∙ z)) ∙ ap (λ (x : Segment). x ∷ rest s (k + 1)) (sym is) in
-    ap (λ (xs : List Segment). xs ++ rest s (k + 1)) pushed ∙ append_assoc ss (g ∷ []) (rest s (k + 1)) ∙ ap (λ (xs : List Segment). ss ++ xs) (sym more) ∙ so_far
-
--- a list in memory has at most 48 segments
-pub listed_few : (l : SegmentList) → length (listed l) ≤ 48
-listed_few l = omega (arith, listed_length l.items l.count (omega (arith, l.few, l.long)), l.few)
-
-pub pushed_length : (ss ss' : List Segment) (g : Segment) → ss' ≡ ss ++ g ∷ [] → length ss' ≡ length ss + 1
-pushed_length ss ss' g pushed = ap length pushed ∙ length_push ss g

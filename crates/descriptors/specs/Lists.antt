@@ -1,15 +1,10 @@
 -- Segment lists in memory.
-use Rattle.std.specs.Prelude.{ℕ, ◌+◌, ◌-◌, List, [], ◌∷◌, length, take, slice_index_or}
+use Rattle.std.specs.Prelude.{ℕ, ◌+◌, ◌-◌, List, [], ◌∷◌, length, slice_index_or}
 use Rattle.layout.specs.declared.segment.Segment.{Segment}
-use Rattle.descriptors.specs.declared.segment_list.SegmentList.{SegmentList}
 
 -- no segment
 abbrev pub nowhere : Segment
 nowhere = record { start = 0; len = 0 }
-
--- the segments of a list
-abbrev pub listed : SegmentList → List Segment
-listed l = take l.count l.items
 
 -- the last segment
 abbrev pub last_of : List Segment → Segment

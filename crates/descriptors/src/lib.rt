@@ -4,9 +4,8 @@
 
 pub mod fields;
 pub mod heading;
-pub mod list_cuts;
-pub mod list_edits;
 pub mod new_descriptor;
 pub mod places;
 pub mod segment_entries;
 pub mod segment_list;
+pub mod segments;

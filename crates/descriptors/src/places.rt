@@ -1,44 +1,32 @@
-ghost use Rattle.std.specs.Prelude.{◌≡◌, ℕ, ◌^◌, ◌<◌, ◌≤◌, length};
+ghost use Rattle.std.specs.Prelude.{◌≡◌, ◌^◌, ◌<◌, length};
 ghost use Rattle.std.specs.List.{slice_get};
-ghost use Rattle.layout.specs.Descriptor.{segment as segment_in, segments, extent};
+ghost use Rattle.layout.specs.Descriptor.{segments, extent};
 ghost use Rattle.descriptors.specs.Entries.{Used};
 
-use layout::descriptor::{SEGMENTS, segment_at};
+use super::segments::Segments;
 
 // How many entries of a segment list come before the first unused one.
-pub fn used_entries(descriptor: &[u8]) -> usize
-    requires { length descriptor.now ≡ 256 }
-    ensures { Used descriptor.now result }
+pub fn used_entries(descriptor: &[u8; 256]) -> usize
+    ensures is { result ≡ length (segments descriptor.now) }
+    ensures used { Used descriptor.now result }
 {
-    for k in 0..SEGMENTS {
-        if segment_at(descriptor, k).len == 0 {
-            return k;
-        }
-    }
-    SEGMENTS
+    Segments::of(descriptor).count()
 }
 
 // How many sectors the segments have.
-pub fn held_sectors(descriptor: &[u8]) -> usize
-    requires { length descriptor.now ≡ 256 }
+pub fn held_sectors(descriptor: &[u8; 256]) -> usize
     ensures is { result ≡ length (extent (segments descriptor.now)) }
     ensures few { result < 2 ^ 22 }
 {
-    let mut held = 0;
-    for k in 0..used_entries(descriptor) {
-        held += segment_at(descriptor, k).len;
-    }
-    held
+    Segments::of(descriptor).map(|segment| segment.len).sum()
 }
 
 // The i-th sector of a file.
-pub fn sector_of(descriptor: &[u8], i: usize) -> Option<usize>
-    requires { length descriptor.now ≡ 256 }
+pub fn sector_of(descriptor: &[u8; 256], i: usize) -> Option<usize>
     ensures { result ≡ slice_get (extent (segments descriptor.now)) i }
 {
     let mut left = i;
-    for k in 0..used_entries(descriptor) {
-        let segment = segment_at(descriptor, k);
+    for segment in Segments::of(descriptor) {
         if left < segment.len {
             return Some(segment.start + left);
         }

@@ -1,5 +1,6 @@
+pub mod Counted
 pub mod Interleave
-pub mod Sectors
+pub mod Putting
 pub mod Trays
 pub mod Windows
 pub mod Written

@@ -4,6 +4,9 @@ ghost use Rattle.devices.specs.Meaning.{Meaning, Whole, ReadDone, WriteDone, Ask
 // How many bytes a sector has.
 pub const SECTOR: usize = 256;
 
+// The bytes of one sector.
+pub type Sector = [u8; SECTOR];
+
 // Which of a device's questions was answered with no, in the order in which they are asked.
 #[derive(Clone, Copy, PartialEq, Eq, Debug)]
 pub enum Cause {

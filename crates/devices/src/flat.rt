@@ -1,5 +1,5 @@
 ghost use Rattle.std.specs.Prelude.{◌≡◌, [], ◌∷◌, vec_len};
-ghost use Rattle.devices.specs.Flat.{flat_meaning, tail};
+ghost use Rattle.devices.specs.Flat.{flat_meaning, tail, FlatLocated};
 
 use super::device::{Device, DeviceFault, SECTOR, ask};
 
@@ -23,8 +23,17 @@ impl FlatImage {
         let FlatImage { bytes } = self;
         bytes
     }
+
+    // Asks a device's questions, and says where the sector begins.
+    fn locate(&self, lsn: usize, len: usize) -> Result<usize, DeviceFault>
+        ensures { FlatLocated self.now.bytes.items (vec_len self.now.bytes) lsn len result }
+    {
+        ask(lsn, len, self.count())?;
+        Ok(lsn * SECTOR)
+    }
 }
 
+// Reading and writing are as in a tray, two short lines behind the search: functions for the copies would be no plainer.
 impl Device for FlatImage {
     ghost meaning = { λ d. flat_meaning d.bytes.items (vec_len d.bytes) };
 
@@ -35,15 +44,13 @@ impl Device for FlatImage {
     }
 
     fn read(&self, lsn: usize, buf: &mut [u8]) -> Result<(), DeviceFault> {
-        ask(lsn, buf.len(), self.bytes.len() / SECTOR)?;
-        let at = lsn * SECTOR;
+        let at = self.locate(lsn, buf.len())?;
         buf.copy_from_slice(&self.bytes.as_slice()[at..at + SECTOR]);
         Ok(())
     }
 
     fn write(&mut self, lsn: usize, buf: &[u8]) -> Result<(), DeviceFault> {
-        ask(lsn, buf.len(), self.bytes.len() / SECTOR)?;
-        let at = lsn * SECTOR;
+        let at = self.locate(lsn, buf.len())?;
         self.bytes.as_mut_slice()[at..at + SECTOR].copy_from_slice(buf);
         Ok(())
     }

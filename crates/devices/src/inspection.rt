@@ -8,6 +8,9 @@ use super::geometry::Geometry;
 // How many bytes the header of a tray has: the states begin here.
 pub const HEADER: usize = 8;
 
+// Where the spare bytes of the header begin, which are zero: they are its last three.
+const SPARE: usize = 5;
+
 // The state of a sector that can be read and written.
 pub const GOOD: u8 = 0;
 
@@ -63,44 +66,35 @@ fn suits(interleave: usize, sectors: usize) -> bool
     let true = interleave <= sectors else {
         return false;
     };
-    for factor in 2..=interleave {
-        if interleave % factor == 0 && sectors % factor == 0 {
-            return false;
-        }
-    }
-    true
+    !(2..=interleave).any(|factor| interleave % factor == 0 && sectors % factor == 0)
 }
 
-// The geometry that the header tells of: tracks, the high byte first, sides, sectors to a track, interleave, and three
-// bytes that are zero.
+// The geometry that the header tells of: tracks, the high byte first, sides, sectors to a track, interleave, and the
+// spare bytes.
 fn read_header(bytes: &[u8]) -> Result<Geometry, TrayFault>
     ensures { HeaderRead bytes.now result }
 {
-    let HEADER.. = bytes.len() else {
+    let [high, low, sides, sectors, interleave, _, _, _, ..] = bytes else {
         return Err(TrayFault::at(TrayQuestion::Header, 0));
     };
-    let tracks @ 1.. = usize::from(bytes[0]) * 256 + usize::from(bytes[1]) else {
+    let tracks @ 1.. = usize::from(u16::from_be_bytes([*high, *low])) else {
         return Err(TrayFault::at(TrayQuestion::Tracks, 0));
     };
-    let sides @ 1..=2 = usize::from(bytes[2]) else {
+    let sides @ 1..=2 = usize::from(*sides) else {
         return Err(TrayFault::at(TrayQuestion::Sides, 2));
     };
-    let sectors_per_track @ 1..=64 = usize::from(bytes[3]) else {
+    let sectors_per_track @ 1..=64 = usize::from(*sectors) else {
         return Err(TrayFault::at(TrayQuestion::Sectors, 3));
     };
-    let interleave = usize::from(bytes[4]);
+    let interleave = usize::from(*interleave);
     let true = suits(interleave, sectors_per_track) else {
         return Err(TrayFault::at(TrayQuestion::Interleave, 4));
     };
-    let 0 = bytes[5] else {
-        return Err(TrayFault::at(TrayQuestion::Spare, 5));
-    };
-    let 0 = bytes[6] else {
-        return Err(TrayFault::at(TrayQuestion::Spare, 6));
-    };
-    let 0 = bytes[7] else {
-        return Err(TrayFault::at(TrayQuestion::Spare, 7));
-    };
+    for (k, byte) in bytes[SPARE..HEADER].iter().enumerate() {
+        let 0 = *byte else {
+            return Err(TrayFault::at(TrayQuestion::Spare, SPARE + k));
+        };
+    }
     Ok(Geometry {
         tracks,
         sides,
@@ -118,8 +112,8 @@ pub fn inspect(bytes: &[u8]) -> Result<Geometry, TrayFault>
     let true = bytes.len() == HEADER + total + total * SECTOR else {
         return Err(TrayFault::at(TrayQuestion::Length, HEADER));
     };
-    for place in 0..total {
-        let (GOOD | BAD) = bytes[HEADER + place] else {
+    for (place, state) in bytes[HEADER..HEADER + total].iter().enumerate() {
+        let (GOOD | BAD) = *state else {
             return Err(TrayFault::at(TrayQuestion::State, HEADER + place));
         };
     }

@@ -7,5 +7,6 @@ pub mod flat;
 pub mod geometry;
 pub mod inspection;
 pub mod lent;
+pub mod sectors;
 pub mod tray;
 pub mod window;

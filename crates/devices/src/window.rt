@@ -57,23 +57,15 @@ impl<D: Device> Device for Window<D> {
 
     fn read(&self, lsn: usize, buf: &mut [u8]) -> Result<(), DeviceFault> {
         ask(lsn, buf.len(), self.extent())?;
-        if let Err(fault) = self.lower.read(self.start + lsn, buf) {
-            return Err(DeviceFault {
-                cause: fault.cause,
-                lsn,
-            });
-        }
-        Ok(())
+        self.lower
+            .read(self.start + lsn, buf)
+            .map_err(|fault| DeviceFault { lsn, ..fault })
     }
 
     fn write(&mut self, lsn: usize, buf: &[u8]) -> Result<(), DeviceFault> {
         ask(lsn, buf.len(), self.extent())?;
-        if let Err(fault) = self.lower.write(self.start + lsn, buf) {
-            return Err(DeviceFault {
-                cause: fault.cause,
-                lsn,
-            });
-        }
-        Ok(())
+        self.lower
+            .write(self.start + lsn, buf)
+            .map_err(|fault| DeviceFault { lsn, ..fault })
     }
 }

@@ -1,11 +1,12 @@
-ghost use Rattle.std.specs.Prelude.{◌≡◌};
-ghost use Rattle.files.specs.CallFaults.{of_tray, of_volume, number_of, place_of, layer_of};
+ghost use Rattle.std.specs.Prelude.{◌≡◌, Some};
+ghost use Rattle.files.specs.CallFaults.{of_tray, of_volume, number_of, place_of, layer_of, refusal_text};
 
 use devices::inspection::TrayFault;
+use std::fmt;
 use volume::fault::{Layer, VolumeFault};
 
 // A refusal of a call, with the lower layer's refusal whole inside it.
-#[derive(Clone, Copy, Debug)]
+#[derive(Clone, Copy, PartialEq, Eq, Debug)]
 pub enum CallFault {
     Tray(TrayFault),
     Volume(VolumeFault),
@@ -38,6 +39,18 @@ impl CallFault {
             CallFault::Tray(_) => Layer::Devices,
             CallFault::Volume(fault) => fault.layer(),
         }
+    }
+}
+
+// The line that scripts read: `refused NUMBER PLACE LAYER`.
+impl fmt::Display for CallFault {
+    ghost output = { λ fault. Some (refusal_text fault) };
+
+    fn fmt<W: fmt::Write>(&self, f: &mut fmt::Formatter<W>) -> fmt::Result {
+        let number = self.number();
+        let place = self.place();
+        let layer = self.layer();
+        write!(f, "refused {number} {place} {layer}")
     }
 }
 

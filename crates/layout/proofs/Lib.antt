@@ -3,4 +3,5 @@ pub mod Clears
 pub mod Lays
 pub mod Marks
 pub mod Rows
+pub mod Searched
 pub mod Segments

@@ -1,12 +1,16 @@
 ghost use Rattle.std.specs.Prelude.{◌≡◌, ℕ, ◌+◌, ◌*◌, ◌<◌, ◌≤◌, length};
 ghost use Rattle.layout.specs.Map.{map_bytes_of, map_sectors, bit_of, clear_below};
 
-// How many bytes the map of a volume has: a bit for each sector.
+// How many bits a sector of the map has.
+pub const BITS: usize = 2048;
+
+// How many bytes the map of a volume has: a bit for each sector. The number is a plain one here and below,
+// since its bound comes from another type in each caller: a record, a plan, or a question just answered.
 pub fn map_bytes(total: usize) -> usize
     requires { total ≤ 65536 }
     ensures { result ≡ map_bytes_of total }
 {
-    (total + 7) / 8
+    total.div_ceil(8)
 }
 
 // How many sectors the map of a volume fills.
@@ -14,7 +18,7 @@ pub fn map_length(total: usize) -> usize
     requires { total ≤ 65536 }
     ensures { result ≡ map_sectors total }
 {
-    (map_bytes(total) + 255) / 256
+    map_bytes(total).div_ceil(256)
 }
 
 // Whether a bit of a map sector is set.
@@ -31,11 +35,5 @@ pub fn clear_in(map: &[u8], n: usize) -> usize
     ensures is { result ≡ clear_below (bit_of map.now) n }
     ensures few { result ≤ n }
 {
-    let mut count = 0;
-    for k in 0..n {
-        if !is_set(map, k) {
-            count += 1;
-        }
-    }
-    count
+    (0..n).filter(|k| !is_set(map, *k)).count()
 }

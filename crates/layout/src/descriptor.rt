@@ -1,4 +1,4 @@
-ghost use Rattle.std.specs.Prelude.{◌≡◌, ℕ, ◌+◌, ◌*◌, ◌^◌, ◌<◌, length};
+ghost use Rattle.std.specs.Prelude.{◌≡◌, ℕ, ◌+◌, ◌*◌, ◌^◌, ◌<◌};
 ghost use Rattle.layout.specs.Bytes.{over};
 ghost use Rattle.layout.specs.Descriptor.{segment as segment_in, segment_bytes};
 
@@ -12,9 +12,8 @@ pub const SEGMENTS_AT: usize = 16;
 pub const SEGMENTS: usize = 48;
 
 // The entry k of a descriptor's segment list.
-pub fn segment_at(descriptor: &[u8], k: usize) -> Segment
-    requires wide { length descriptor.now ≡ 256 }
-    requires few { k < 48 }
+pub fn segment_at(descriptor: &[u8; 256], k: usize) -> Segment
+    requires { k < 48 }
     ensures is { result ≡ segment_in descriptor.now k }
     ensures low { result.start < 2 ^ 24 }
     ensures short { result.len < 2 ^ 16 }
@@ -23,8 +22,7 @@ pub fn segment_at(descriptor: &[u8], k: usize) -> Segment
 }
 
 // Writes the entry k of a descriptor's segment list.
-pub fn put_segment(descriptor: &mut [u8], k: usize, segment: &Segment)
-    requires wide { length descriptor.old ≡ 256 }
+pub fn put_segment(descriptor: &mut [u8; 256], k: usize, segment: &Segment)
     requires few { k < 48 }
     requires low { segment.now.start < 2 ^ 24 }
     requires short { segment.now.len < 2 ^ 16 }

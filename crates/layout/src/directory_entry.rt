@@ -3,6 +3,7 @@ ghost use Rattle.layout.specs.Directory.{stored_slot, slot_bytes};
 ghost use Rattle.layout.specs.Slots.{length-slot, slot_back};
 ghost use Rattle.std.proofs.Common.{rules};
 
+use super::numbers::to_bytes;
 use super::records::Record;
 use super::stored_slot::StoredSlot;
 
@@ -14,7 +15,7 @@ impl Record for DirectoryEntry {
 
     type Value = StoredSlot;
 
-    ghost width = { 32 };
+    ghost WIDTH = { 32 };
 
     ghost lawful = { λ s. (length s.name ≡ 28) × (s.lsn < 2 ^ 24) };
 
@@ -30,10 +31,6 @@ impl Record for DirectoryEntry {
 
     ghost back = { λ v h. slot_back v.name v.lsn h.0 h.1 };
 
-    fn bytes_wide() -> usize {
-        Self::WIDTH
-    }
-
     fn unused(bytes: &[u8]) -> bool {
         bytes[0] == 0
     }
@@ -44,17 +41,15 @@ impl Record for DirectoryEntry {
         let [.., a, b, c] = bytes else { unreachable() };
         StoredSlot {
             name,
-            lsn: (usize::from(*a) * 256 + usize::from(*b)) * 256 + usize::from(*c),
+            lsn: u32::from_be_bytes([0, *a, *b, *c]) as usize,
         }
     }
 
     fn write(value: &StoredSlot, bytes: &mut [u8]) {
-        bytes[0..28].copy_from_slice(&value.name);
-        bytes[28..32].copy_from_slice(&[
-            0,
-            (value.lsn / 256 / 256 % 256) as u8,
-            (value.lsn / 256 % 256) as u8,
-            (value.lsn % 256) as u8,
-        ]);
+        let (name, rest) = bytes.split_at_mut(28);
+        name.copy_from_slice(&value.name);
+        let (zero, lsn) = rest.split_at_mut(1);
+        zero.copy_from_slice(&[0]);
+        lsn.copy_from_slice(&to_bytes::<3>(value.lsn));
     }
 }

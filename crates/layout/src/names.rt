@@ -13,25 +13,14 @@ pub const UP: [u8; 2] = *b".\xae";
 pub fn is_name_byte(b: u8) -> bool
     ensures { result ≡ name_byte b }
 {
-    match b {
-        b'A'..=b'Z' | b'a'..=b'z' | b'0'..=b'9' | b'_' | b'$' | b'.' => true,
-        _ => false,
-    }
+    matches!(b, b'A'..=b'Z' | b'a'..=b'z' | b'0'..=b'9' | b'_' | b'$' | b'.')
 }
 
 // Whether these bytes can name a volume: 1 to 32 letters, digits, "_", "$" or ".".
 pub fn is_volume_name(name: &[u8]) -> bool
     ensures { MatchBool result (VolumeName name.now) (VolumeName name.now → ⊥) }
 {
-    let 1..=32 = name.len() else {
-        return false;
-    };
-    for b in name {
-        if !is_name_byte(*b) {
-            return false;
-        }
-    }
-    true
+    matches!(name.len(), 1..=32) && name.iter().all(|b| is_name_byte(*b))
 }
 
 // Writes a name as it is stored, with bit 7 set on its last byte.

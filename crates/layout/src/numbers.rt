@@ -1,34 +1,19 @@
 ghost use Rattle.std.specs.Prelude.{◌≡◌, ◌+◌, ◌^◌, ◌<◌, ◌≤◌, length};
 ghost use Rattle.layout.specs.Bytes.{number, bytes as encoded, over};
 
-// The two bytes of a number, the highest first.
-pub fn two_bytes(n: usize) -> [u8; 2]
-    ensures { result ≡ encoded 2 n }
+// The bytes of a number, the highest first.
+pub fn to_bytes<const N: usize>(n: usize) -> [u8; N]
+    ensures { result ≡ encoded N n }
 {
-    [(n / 256 % 256) as u8, (n % 256) as u8]
-}
-
-// The three bytes of a number, the highest first.
-pub fn three_bytes(n: usize) -> [u8; 3]
-    ensures { result ≡ encoded 3 n }
-{
-    [
-        (n / 256 / 256 % 256) as u8,
-        (n / 256 % 256) as u8,
-        (n % 256) as u8,
-    ]
-}
-
-// The four bytes of a number, the highest first.
-pub fn four_bytes(n: usize) -> [u8; 4]
-    ensures { result ≡ encoded 4 n }
-{
-    [
-        (n / 256 / 256 / 256 % 256) as u8,
-        (n / 256 / 256 % 256) as u8,
-        (n / 256 % 256) as u8,
-        (n % 256) as u8,
-    ]
+    let mut bytes = [0; N];
+    let mut rest = n;
+    // the last byte first, since a loop over `iter_mut().rev()` tells nothing of the array
+    for byte in bytes.iter_mut() {
+        *byte = (rest % 256) as u8;
+        rest /= 256;
+    }
+    bytes.reverse();
+    bytes
 }
 
 // The number that some bytes from an offset on show, the highest first.
@@ -39,8 +24,8 @@ pub fn number_at(bytes: &[u8], at: usize, width: usize) -> usize
     ensures fits { result < 256 ^ width }
 {
     let mut n = 0;
-    for k in 0..width {
-        n = n * 256 + usize::from(bytes[at + k]);
+    for byte in &bytes[at..at + width] {
+        n = n * 256 + usize::from(*byte);
     }
     n
 }

@@ -8,8 +8,8 @@ pub trait Record {
 
     type Value;
 
-    // what WIDTH is: a clause cannot name the constant of a type parameter
-    ghost width: { ℕ };
+    // the constant's value, for clauses
+    ghost WIDTH: { ℕ };
 
     // the values that a record can hold
     ghost lawful: { Self.Value → Type 0 };
@@ -20,25 +20,21 @@ pub trait Record {
 
     ghost is_unused: { List ℕ → Bool };
 
-    // `Self::WIDTH`, for code that is written for every kind.
-    fn bytes_wide() -> usize
-        ensures { result ≡ width };
-
     fn unused(bytes: &[u8]) -> bool
-        requires { length bytes.now ≡ width }
+        requires { length bytes.now ≡ WIDTH }
         ensures { result ≡ is_unused bytes.now };
 
     fn read(bytes: &[u8]) -> Self::Value
-        requires { length bytes.now ≡ width }
+        requires { length bytes.now ≡ WIDTH }
         ensures { result ≡ value_of bytes.now };
 
     fn write(value: &Self::Value, bytes: &mut [u8])
-        requires { (length bytes.old ≡ width) × (lawful value.now) }
+        requires { (length bytes.old ≡ WIDTH) × (lawful value.now) }
         ensures { bytes.new ≡ bytes_of value.now };
 
-    ghost some: { 0 < width };
+    ghost some: { 0 < WIDTH };
 
-    ghost wide: { (v : Self.Value) → lawful v → length (bytes_of v) ≡ width };
+    ghost wide: { (v : Self.Value) → lawful v → length (bytes_of v) ≡ WIDTH };
 
     // what was written is read back
     ghost back: { (v : Self.Value) → lawful v → value_of (bytes_of v) ≡ v };
@@ -46,35 +42,28 @@ pub trait Record {
 
 // The k-th record of a table.
 pub fn nth<R: Record>(table: &[u8], k: usize) -> R::Value
-    requires { k * R.Record.width + R.Record.width ≤ length table.now }
-    ensures { result ≡ R.Record.value_of (record_at R.Record.width k table.now) }
+    requires { k * R.WIDTH + R.WIDTH ≤ length table.now }
+    ensures { result ≡ R.value_of (record_at R.WIDTH k table.now) }
 {
-    let wide = R::bytes_wide();
-    let at = k * wide;
-    R::read(&table[at..at + wide])
+    let at = k * R::WIDTH;
+    R::read(&table[at..at + R::WIDTH])
 }
 
 // Writes the k-th record of a table.
 pub fn put_nth<R: Record>(table: &mut [u8], k: usize, value: &R::Value)
-    requires { (k * R.Record.width + R.Record.width ≤ length table.old) × (R.Record.lawful value.now) }
-    ensures laid { table.new ≡ over (k * R.Record.width) (R.Record.bytes_of value.now) table.old }
-    ensures back { R.Record.value_of (record_at R.Record.width k table.new) ≡ value.now }
+    requires { (k * R.WIDTH + R.WIDTH ≤ length table.old) × (R.lawful value.now) }
+    ensures laid { table.new ≡ over (k * R.WIDTH) (R.bytes_of value.now) table.old }
+    ensures back { R.value_of (record_at R.WIDTH k table.new) ≡ value.now }
 {
-    let wide = R::bytes_wide();
-    let at = k * wide;
-    R::write(value, &mut table[at..at + wide]);
+    let at = k * R::WIDTH;
+    R::write(value, &mut table[at..at + R::WIDTH]);
 }
 
 // The first unused record of a table, if it has one.
 pub fn first_unused<R: Record>(table: &[u8]) -> Option<usize>
-    ensures { FirstUnused R.Record.width R.Record.is_unused table.now result }
+    ensures { FirstUnused R.WIDTH R.is_unused table.now result }
 {
-    let wide = R::bytes_wide();
-    for k in 0..table.len() / wide {
-        let at = k * wide;
-        if R::unused(&table[at..at + wide]) {
-            return Some(k);
-        }
-    }
-    None
+    table
+        .chunks_exact(R::WIDTH)
+        .position(|record| R::unused(record))
 }

@@ -4,6 +4,7 @@ ghost use Rattle.layout.specs.Descriptor.{segment_of, segment_bytes};
 ghost use borrow.Author.Rules.{rules};
 ghost use Rattle.layout.specs.Bytes;
 
+use super::numbers::to_bytes;
 use super::records::Record;
 use super::segment::Segment;
 
@@ -15,7 +16,7 @@ impl Record for SegmentEntry {
 
     type Value = Segment;
 
-    ghost width = { 5 };
+    ghost WIDTH = { 5 };
 
     ghost lawful = { λ s. (s.start < 2 ^ 24) × (s.len < 2 ^ 16) };
 
@@ -31,10 +32,6 @@ impl Record for SegmentEntry {
 
     ghost back = { unfold segment_of number Bytes.bytes in Prim.search rules };
 
-    fn bytes_wide() -> usize {
-        Self::WIDTH
-    }
-
     fn unused(bytes: &[u8]) -> bool {
         Self::read(bytes).len == 0
     }
@@ -44,18 +41,14 @@ impl Record for SegmentEntry {
             unreachable()
         };
         Segment {
-            start: (usize::from(*a) * 256 + usize::from(*b)) * 256 + usize::from(*c),
-            len: usize::from(*hi) * 256 + usize::from(*lo),
+            start: u32::from_be_bytes([0, *a, *b, *c]) as usize,
+            len: usize::from(u16::from_be_bytes([*hi, *lo])),
         }
     }
 
     fn write(value: &Segment, bytes: &mut [u8]) {
-        bytes.copy_from_slice(&[
-            (value.start / 256 / 256 % 256) as u8,
-            (value.start / 256 % 256) as u8,
-            (value.start % 256) as u8,
-            (value.len / 256 % 256) as u8,
-            (value.len % 256) as u8,
-        ]);
+        let (start, len) = bytes.split_at_mut(3);
+        start.copy_from_slice(&to_bytes::<3>(value.start));
+        len.copy_from_slice(&to_bytes::<2>(value.len));
     }
 }

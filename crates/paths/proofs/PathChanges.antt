@@ -1,6 +1,8 @@
 -- What adding, moving and removing a path does to the open paths by number.
-use Rattle.std.proofs.Common.{◌≡◌, ℕ, ◌+◌, ◌<◌, List, length, get_or, set, Some, None, Option, sym, refl, ap, ◌∙◌, subst, inl, inr, arith, get_or-set_other, get_or-set_same}
-use Rattle.paths.specs.Paths.{path_at, if_kind, First, Free, opened_path, Added, at_position, if_open, Moved, Removed}
+use Rattle.std.proofs.Common.{◌≡◌, ℕ, ◌+◌, ◌<◌, ◌≢◌, Bool, true, false, List, length, get_or, set, Some, None, Option, sym, refl, ap, ◌∙◌, subst, inl, inr, arith, get_or-set_other, get_or-set_same}
+use Rattle.std.specs.Bool.{then_some}
+use Rattle.std.specs.Option.{MatchOption}
+use Rattle.paths.specs.Paths.{path_at, if_kind, of_kind, First, Free, opened_path, Added, at_position, if_open, Moved, Removed}
 use Rattle.paths.specs.declared.open_path.OpenPath.{OpenPath}
 use Rattle.paths.specs.declared.open_path.PathKind.{PathKind}
 use Rattle.paths.specs.declared.open_path.PathKind.TheVariants.{Read, Update}
@@ -18,6 +20,18 @@ other_kind p Read Read e f = absurd (f refl)
 other_kind p Read Update e f = ap (if_kind Read p) (sym e)
 other_kind p Update Read e f = ap (if_kind Update p) (sym e)
 other_kind p Update Update e f = absurd (f refl)
+
+-- the path is kept where the kind asked is its own; Tells is what the test told of a path
+pub kind_asked : (Tells : OpenPath → Bool → Type 0) (kind : PathKind) (o : Option OpenPath) (p : OpenPath) (r : Option OpenPath) → o ≡ Some p
+    → MatchOption o (r ≡ None) (λ x. (b : Bool) × Tells x b × (r ≡ then_some b x))
+    → (Tells p true → p.kind ≡ kind) → (Tells p false → p.kind ≢ kind) → r ≡ of_kind kind (Some p)
+kind_asked Tells kind o p r is told its other =
+    let h = rw is at told in
+    h.2 ∙ asked h.0 h.1
+  where
+    asked : (b : Bool) → Tells p b → then_some b p ≡ of_kind kind (Some p)
+    asked true t = same_kind p kind p.kind refl (its t)
+    asked false t = other_kind p kind p.kind refl (other t)
 
 -- the first place with a number has the path
 pub first_is : (ps : List (Option OpenPath)) (n k : ℕ) (p : OpenPath) → First ps n k → get_or ps k None ≡ Some p → path_at ps n ≡ Some p

@@ -1,8 +1,12 @@
 -- Open paths in their places: what a change of one place does to the paths by number.
-use Rattle.std.proofs.Common.{◌≡◌, ℕ, zero, suc, ◌+◌, ◌<◌, ◌≤◌, Bool, cond, eqb, ◌⊎◌, List, [], ◌∷◌, length, get_or, drop, set, Some, None, Option, sym, refl, ap, ◌∙◌, subst, inl, inr, arith, get_or-set_other, get_or-set_same, eq-eqb, ne_eqb}
-use Rattle.std.proofs.lemmas.List.{at_drop_more}
+use Rattle.std.proofs.Common.{◌≡◌, ℕ, zero, suc, ◌+◌, ◌<◌, ◌≤◌, ◌≢◌, Bool, true, false, cond, eqb, ◌⊎◌, List, [], ◌∷◌, length, get_or, set, Some, None, Option, sym, refl, ap, ◌∙◌, subst, inl, inr, arith, get_or-set_other, get_or-set_same, eq-eqb, ne_eqb}
+use Rattle.std.proofs.lemmas.List.Recursion.{is_count_by}
+use Rattle.std.specs.Bool.{MatchBool}
+use Rattle.std.specs.List.{AllWithin, HoldsAt, count_by}
+use Rattle.std.specs.Option.{MatchOption, is_some}
 use Rattle.std.proofs.lemmas.Bool.{cases_eq}
-use Rattle.paths.specs.Paths.{path_at, open_count, Numbered}
+use Rattle.paths.specs.Paths.{path_at, open_count, Numbered, First, Free, OpenOn, UpdatedOn}
+use Rattle.paths.specs.declared.open_path.PathKind.TheVariants.{Update}
 use Rattle.paths.specs.declared.open_path.OpenPath.{OpenPath}
 
 -- a place has no path, or one with this number
@@ -90,29 +94,69 @@ numbered_set ps opened opened' k o lt more lawful alone n =
       ];
     }
 
--- a loop over the places, one place further: no path before it is wanted, nor the one there
-module _ (Wanted : OpenPath → Type 0) (ps : List (Option OpenPath)) (k : ℕ) (before : (j : ℕ) (p : OpenPath) → j < k → get_or ps j None ≡ Some p → Wanted p → ⊥) where
-  pub past_none : get_or ps k None ≡ None → (j : ℕ) (p : OpenPath) → j < k + 1 → get_or ps j None ≡ Some p → Wanted p → ⊥
-  past_none here j p lt e w = elim (cases_eq j k) [
-    | inl q ↦ (let f : get_or ps k None ≡ Some p = ap (λ (i : ℕ). get_or ps i None) (sym q) ∙ e in let z : ◌≡◌ {A = ℕ} 0 1 = cc in omega arith)
-    | inr ne ↦ before j p (omega arith) e w
-  ]
-
-  pub past_some : (a : OpenPath) → get_or ps k None ≡ Some a → (Wanted a → ⊥) → (j : ℕ) (p : OpenPath) → j < k + 1 → get_or ps j None ≡ Some p → Wanted p → ⊥
-  past_some a here other j p lt e w = elim (cases_eq j k) [
-    | inl q ↦ (let f : get_or ps k None ≡ Some p = ap (λ (i : ℕ). get_or ps i None) (sym q) ∙ e in let same : p ≡ a = cc in other (subst Wanted same w))
-    | inr ne ↦ before j p (omega arith) e w
-  ]
-
 -- a place past the end has none
 pub within : (ps : List (Option OpenPath)) (k : ℕ) (p : OpenPath) → get_or ps k None ≡ Some p → k < length ps
 within [] k p e = absurd (let z : ◌≡◌ {A = ℕ} 0 1 = cc in omega arith)
 within (x ∷ ps) zero p e = omega arith
 within (x ∷ ps) (suc k) p e = omega (arith, within ps k p e)
 
--- the open ones, counted from the front
-pub count_none : (ps : List (Option OpenPath)) (k : ℕ) → k < length ps → get_or ps k None ≡ None → open_count (drop k ps) ≡ open_count (drop (k + 1) ps)
-count_none ps k lt e = at_drop_more open_count ps k None lt ∙ ap (λ (o : Option OpenPath). open_count (o ∷ drop (k + 1) ps)) e
+-- a place has a path that is wanted; it has none that is
+abbrev pub Has : (OpenPath → Type 0) → Option OpenPath → Type 0
+Has Wanted o = MatchOption o ⊥ Wanted
 
-pub count_some : (ps : List (Option OpenPath)) (k : ℕ) (p : OpenPath) → k < length ps → get_or ps k None ≡ Some p → open_count (drop k ps) ≡ 1 + open_count (drop (k + 1) ps)
-count_some ps k p lt e = at_drop_more open_count ps k None lt ∙ ap (λ (o : Option OpenPath). open_count (o ∷ drop (k + 1) ps)) e
+abbrev pub Lacks : (OpenPath → Type 0) → Option OpenPath → Type 0
+Lacks Wanted o = MatchOption o (Unit {0}) (λ p. Wanted p → ⊥)
+
+module _ (Wanted : OpenPath → Type 0) (ps : List (Option OpenPath)) where
+  pub some_place : (k : ℕ) → HoldsAt (Has Wanted) ps k → (p : OpenPath) × (get_or ps k None ≡ Some p) × Wanted p
+  some_place k h = path_of (get_or ps k None) refl (h None)
+    where
+      path_of : (o : Option OpenPath) → get_or ps k None ≡ o → Has Wanted o → (p : OpenPath) × (get_or ps k None ≡ Some p) × Wanted p
+      path_of None e w = absurd w
+      path_of (Some p) e w = (p, e, w)
+
+  pub no_place : (n : ℕ) → AllWithin (Lacks Wanted) ps 0 n → (k : ℕ) (p : OpenPath) → k < n → get_or ps k None ≡ Some p → Wanted p → ⊥
+  no_place n h k p lt e =
+      let lacks : Lacks Wanted (Some p) = subst (Lacks Wanted) e (h k None (omega arith) lt) in
+      lacks
+
+-- what a search for the first path with a number tells
+pub place_is : (ps : List (Option OpenPath)) (n : ℕ) (r : Option ℕ) → length ps ≡ 16
+    → MatchOption r (AllWithin (Lacks (λ p. p.number ≡ n)) ps 0 (length ps)) (λ i. (i < length ps) × HoldsAt (Has (λ p. p.number ≡ n)) ps i × AllWithin (Lacks (λ p. p.number ≡ n)) ps 0 i)
+    → MatchOption r (path_at ps n ≡ None) (First ps n)
+place_is ps n None long h = path_none ps n (no_place (λ p. p.number ≡ n) ps (length ps) h)
+place_is ps n (Some k) long h =
+    let q = some_place (λ p. p.number ≡ n) ps k h.1 in
+    record { within = omega arith; path = q.0; there = q.1; number = q.2; before = no_place (λ p. p.number ≡ n) ps k h.2 }
+
+-- what a search for a place with no path tells
+pub free_is : (ps : List (Option OpenPath)) (r : Option ℕ) → length ps ≡ 16
+    → MatchOption r (AllWithin (λ o. o ≢ None) ps 0 (length ps)) (λ i. (i < length ps) × HoldsAt (λ o. o ≡ None) ps i × AllWithin (λ o. o ≢ None) ps 0 i)
+    → MatchOption r (open_count ps ≡ 16) (Free ps)
+free_is ps None long h = count_full ps (λ j lt. h j None (omega arith) lt) ∙ long
+free_is ps (Some k) long h = (omega arith, h.1 None)
+
+-- what a search for a path on a file tells
+pub open_is : (ps : List (Option OpenPath)) (file : ℕ) (r : Bool)
+    → MatchBool r ((k : ℕ) × (k < length ps) × HoldsAt (Has (λ p. p.descriptor ≡ file)) ps k) (AllWithin (Lacks (λ p. p.descriptor ≡ file)) ps 0 (length ps))
+    → MatchBool r (OpenOn ps file) (OpenOn ps file → ⊥)
+open_is ps file true h =
+    let q = some_place (λ p. p.descriptor ≡ file) ps h.0 h.2 in
+    record { place = h.0; path = q.0; there = q.1; same = q.2 }
+open_is ps file false h = λ o. no_place (λ p. p.descriptor ≡ file) ps (length ps) h o.place o.path (within ps o.place o.path o.there) o.there o.same
+
+pub updated_is : (ps : List (Option OpenPath)) (file : ℕ) (r : Bool)
+    → MatchBool r ((k : ℕ) × (k < length ps) × HoldsAt (Has (λ p. (p.descriptor ≡ file) × (p.kind ≡ Update))) ps k) (AllWithin (Lacks (λ p. (p.descriptor ≡ file) × (p.kind ≡ Update))) ps 0 (length ps))
+    → MatchBool r (UpdatedOn ps file) (UpdatedOn ps file → ⊥)
+updated_is ps file true h =
+    let q = some_place (λ p. (p.descriptor ≡ file) × (p.kind ≡ Update)) ps h.0 h.2 in
+    record { place = h.0; path = q.0; there = q.1; same = q.2.0; update = q.2.1 }
+updated_is ps file false h = λ o. no_place (λ p. (p.descriptor ≡ file) × (p.kind ≡ Update)) ps (length ps) h o.place o.path (within ps o.place o.path o.there) o.there (o.same, o.update)
+
+-- the open ones are those places that have a path
+pub count_is : (ps : List (Option OpenPath)) → open_count ps ≡ count_by is_some ps
+count_is = is_count_by open_count is_some refl one_more
+  where
+    one_more : (o : Option OpenPath) (ps : List (Option OpenPath)) → open_count (o ∷ ps) ≡ cond (is_some o) (1 + open_count ps) (open_count ps)
+    one_more None ps = refl
+    one_more (Some p) ps = refl

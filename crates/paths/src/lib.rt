@@ -4,4 +4,3 @@
 
 pub mod open_path;
 pub mod open_paths;
-pub mod path_edits;

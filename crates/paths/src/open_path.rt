@@ -6,7 +6,7 @@ pub enum PathKind {
 }
 
 // An open path: its number, its kind, the descriptor of its file and the position in it.
-#[derive(Clone, Copy)]
+#[derive(Clone, Copy, PartialEq, Eq, Debug)]
 pub struct OpenPath {
     pub number: u32,
     pub kind: PathKind,

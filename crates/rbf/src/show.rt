@@ -1,20 +1,10 @@
-use console::letters::stored_letters;
+use console::letters::StoredName;
 use console::summary::Summary;
-use layout::attribute::attribute_letters;
 use layout::stored_slot::StoredSlot;
 use volume::volume_record::Volume;
 
-// The letters of an attribute, as a text.
-fn letters_of(rt: &HostRuntime, attribute: usize) -> anyhow::Result<String> {
-    let mut text = String::new(rt.alloc());
-    for letter in attribute_letters((attribute % 256) as u8) {
-        text.push(char::from(letter))?;
-    }
-    Ok(text)
-}
-
 fn print_slot(rt: &HostRuntime, lsn: usize, slot: &StoredSlot) -> anyhow::Result<()> {
-    let name = stored_letters(rt.alloc(), &slot.name)?;
+    let name = StoredName(&slot.name);
     let descriptor = slot.lsn;
     println!(rt; "LSN {lsn}: root directory: \"{name}\" with its descriptor in LSN {descriptor}")?;
     Ok(())
@@ -22,13 +12,13 @@ fn print_slot(rt: &HostRuntime, lsn: usize, slot: &StoredSlot) -> anyhow::Result
 
 fn print_root(rt: &HostRuntime, lsn: usize, summary: &Summary) -> anyhow::Result<()> {
     let root = summary.root;
-    let letters = letters_of(rt, root.attribute)?;
+    let attribute = root.attribute;
     let links = root.link_count;
     let size = root.size;
     let start = root.segment.start;
     let len = root.segment.len;
     println!(rt;
-        "LSN {lsn}: root descriptor: attribute {letters}, link count {links}, size {size}, segment ({start}, {len})"
+        "LSN {lsn}: root descriptor: attribute {attribute}, link count {links}, size {size}, segment ({start}, {len})"
     )?;
     print_slot(rt, start, &summary.here)?;
     print_slot(rt, start, &summary.up)
@@ -46,8 +36,8 @@ pub fn print_summary(
     let map_bytes = found.map_bytes;
     let cluster = found.cluster_size;
     let root = found.root;
-    let letters = letters_of(rt, found.attribute)?;
-    let name = stored_letters(rt.alloc(), &found.name)?;
+    let attribute = found.attribute;
+    let name = StoredName(&found.name);
     let clear = summary.clear;
     let last = root.saturating_sub(1);
     let range = if last == 1 {
@@ -57,7 +47,7 @@ pub fn print_summary(
     };
     println!(rt; "{image}: {len} bytes, {total} sectors")?;
     println!(rt;
-        "LSN 0: identification: {total} sectors, {map_bytes} map bytes, cluster size {cluster}, root descriptor in LSN {root}, attribute {letters}, name \"{name}\""
+        "LSN 0: identification: {total} sectors, {map_bytes} map bytes, cluster size {cluster}, root descriptor in LSN {root}, attribute {attribute}, name \"{name}\""
     )?;
     println!(rt; "{range}: allocation map: {clear} of {total} sectors clear")?;
     print_root(rt, root, summary)

@@ -23,7 +23,7 @@ times-one k x pos = elim (hit_is k x) [ inl h ↦ h.0 | inr h ↦ absurd (omega 
 pub times_two : (k x y : ℕ) → 0 < times k (x ∷ y ∷ []) → (k ≡ x) ⊎ (k ≡ y)
 times_two k x y pos = elim (hit_is k x) [
   | inl h ↦ inl h.0
-  | inr h ↦ elim (hit_is k y) [ inl i ↦ inr i.0 | inr i ↦ absurd (omega (arith, h.1, i.1)) ]
+  | inr h ↦ inr (times-one k y (omega (arith, h.1)))
 ]
 
 pub times_apart : (k x y : ℕ) → (x ≡ y → ⊥) → times k (x ∷ y ∷ []) ≤ 1

@@ -1,5 +1,7 @@
-ghost use Rattle.std.specs.Prelude.{◌≡◌};
+ghost use Rattle.std.specs.Prelude.{◌≡◌, [], ◌∷◌, Some};
 ghost use Rattle.rules.specs.Letters.{letter};
+
+use std::fmt;
 
 // The rules of a sound volume. A finding names the rule that is broken and the sector at which it is.
 #[derive(Clone, Copy, PartialEq, Eq, Debug)]
@@ -37,5 +39,13 @@ impl Rule {
             Rule::G => 'G',
             Rule::H => 'H',
         }
+    }
+}
+
+impl fmt::Display for Rule {
+    ghost output = { λ r. Some (letter r ∷ []) };
+
+    fn fmt<W: fmt::Write>(&self, f: &mut fmt::Formatter<W>) -> fmt::Result {
+        f.write_char(self.letter())
     }
 }

@@ -1,6 +1,6 @@
 -- The walk, one visit after another.
-use Rattle.std.proofs.Common.{◌≡◌, ℕ, ◌+◌, ◌-◌, ◌<◌, ◌≤◌, true, ◌⊎◌, List, [], ◌∷◌, ◌++◌, map, length, get_or, take, Err, sym, refl, ap, ◌∙◌, subst, inl, inr, arith, length-append}
-use Rattle.std.proofs.lemmas.List.{take_more, map-append, get_or-take, get_or-map, get_or-append_right, length-map, length-take-le, get_or_default}
+use Rattle.std.proofs.Common.{◌≡◌, ℕ, ◌+◌, ◌-◌, ◌<◌, ◌≤◌, true, ◌⊎◌, List, [], ◌∷◌, ◌++◌, map, length, get_or, take, Some, Err, sym, refl, ap, ◌∙◌, subst, inl, inr, arith, length-append}
+use Rattle.std.proofs.lemmas.List.{take_more, map-append, get_or-take, get_or-map, get_or-append_right, length-map, length-take-le}
 use Rattle.std.proofs.lemmas.Bool.{cases_lt}
 use Rattle.devices.specs.Meaning.{Meaning, Fails, Refuses}
 use Rattle.devices.specs.declared.device.Cause.{Cause}
@@ -14,6 +14,7 @@ use Rattle.rules.specs.declared.rule.Rule.{Rule}
 use Rattle.rules.specs.declared.rule.Rule.TheVariants as rule
 use Rattle.rules.proofs.Times.{hit_is, times-++}
 use Rattle.rules.proofs.Walks.{walk_starts, walk_turns, walk_clashes, walk_fits, walk_ends}
+use Rattle.survey.specs.Lists.{Popped, Ready}
 use Rattle.survey.specs.Names.{nobody}
 use Rattle.survey.specs.Scanning.{lsns}
 use Rattle.survey.specs.Visiting.{Visit, VisitBreaks, VisitAnswer}
@@ -21,6 +22,7 @@ use Rattle.survey.specs.Walks.{WalkAnswer}
 use Rattle.survey.specs.declared.finding.Finding.{Finding}
 use Rattle.survey.specs.declared.finding.Finding.TheVariants as finding
 use Rattle.survey.specs.declared.waiting.Waiting.{Waiting}
+use Rattle.survey.specs.declared.work_lists.WorkLists.{WorkLists}
 use Rattle.rules.proofs.Members.{get_or-times}
 
 -- after some turns: what was visited, and what waits with its parent
@@ -173,37 +175,43 @@ going_ends d m₀ m ws turn in-volume s = (walk_ends d s.vs (λ k. get_or m k 0)
 pub going_done : (d : Meaning) (m₀ m : List ℕ) (ws : List Waiting) (turn count : ℕ) → sectors_of d ≤ turn → Going d m₀ m ws turn count → count ≡ 0
 going_done d m₀ m ws turn count le s = omega (arith, walk_fits d s.vs (lsns count ws) (λ k. get_or m k 0) s.walking, s.long, length-lsns count ws s.most)
 
--- the same, as a turn of the loop has it: the last of those that wait is visited
-module _ (d : Meaning) (m₀ m : List ℕ) (ws : List Waiting) (turn count low high : ℕ) (map_is : low ≡ map_of d) (total_is : high ≡ sectors_of d) (some : count ≡ 0 → ⊥) (s : Going d m₀ m ws turn count) (x : Waiting) where
-  going : Going d m₀ m ws turn ((count - 1) + 1)
-  going = subst (λ (n : ℕ). Going d m₀ m ws turn n) (omega arith) s
+-- the same, as a turn of the loop has it: one that waited was taken, and is visited
+module _ (d : Meaning) (m₀ : List ℕ) (lists after : WorkLists) (turn low high : ℕ) (map_is : low ≡ map_of d) (total_is : high ≡ sectors_of d)
+    (s : Going d m₀ lists.marks.now lists.waiting.now turn lists.count) (next : Waiting)
+    (same_marks : after.marks.now ≡ lists.marks.now) (same_waiting : after.waiting.now ≡ lists.waiting.now) (taken : Popped lists.count after.count lists.waiting.now (Some next)) where
+  going : Going d m₀ after.marks.now after.waiting.now turn (after.count + 1)
+  going =
+      subst (λ (m : List ℕ). Going d m₀ m after.waiting.now turn (after.count + 1)) (sym same_marks)
+      (subst (λ (ws : List Waiting). Going d m₀ lists.marks.now ws turn (after.count + 1)) (sym same_waiting)
+      (subst (λ (n : ℕ). Going d m₀ lists.marks.now lists.waiting.now turn n) taken.0 s))
 
-  last_is : get_or ws (count - 1) x ≡ get_or ws (count - 1) nobody
-  last_is = get_or_default ws (count - 1) x nobody (omega (arith, s.most))
+  next_is : next ≡ get_or after.waiting.now after.count nobody
+  next_is = taken.1 ∙ ap (λ (ws : List Waiting). get_or ws after.count nobody) (sym same_waiting)
 
-  pub turn_listed : (c : ℕ) → times c (lsns (count - 1) ws) ≤ get_or m c 0
-  turn_listed = going_listed d m₀ m ws turn (count - 1) going
+  pub turn_ready : high ≤ length lists.waiting.now → high ≤ length lists.marks.now → Ready high after
+  turn_ready room marked = record {
+    room = omega (arith, room, ap length same_waiting);
+    marked = omega (arith, marked, ap length same_marks);
+    some = omega (arith, going.most);
+    small = λ c lt. going_small d m₀ after.marks.now after.waiting.now turn after.count going c (omega (arith, total_is));
+    listed = going_listed d m₀ after.marks.now after.waiting.now turn after.count going;
+    inside = λ c pos. omega (arith, total_is, going_inside d m₀ after.marks.now after.waiting.now turn after.count going c pos);
+  }
 
-  pub turn_inside : (c : ℕ) → 0 < times c (lsns (count - 1) ws) → c < high
-  turn_inside c pos = omega (arith, total_is, going_inside d m₀ m ws turn (count - 1) going c pos)
-
-  pub turn_small : (c : ℕ) → c < high → get_or m c 0 ≤ 1
-  turn_small c lt = s.walking.small c (omega (arith, total_is))
-
-  pub turn_on : (n : ℕ) (m' : List ℕ) (ws' : List Waiting) → Visit d (get_or ws (count - 1) x).lsn (get_or ws (count - 1) x).parent low high (count - 1) n m m' ws ws' → Going d m₀ m' ws' (turn + 1) n
+  pub turn_on : (n : ℕ) (m' : List ℕ) (ws' : List Waiting) → Visit d next.lsn next.parent low high after.count n after.marks.now m' after.waiting.now ws' → Going d m₀ m' ws' (turn + 1) n
   turn_on n m' ws' v =
-      going_on d m₀ m ws turn (count - 1) going n m' ws'
-      (subst (λ (w : Waiting). Visit d w.lsn w.parent (map_of d) (sectors_of d) (count - 1) n m m' ws ws') last_is
-      (subst (λ (h : ℕ). Visit d (get_or ws (count - 1) x).lsn (get_or ws (count - 1) x).parent (map_of d) h (count - 1) n m m' ws ws') total_is
-      (subst (λ (h : ℕ). Visit d (get_or ws (count - 1) x).lsn (get_or ws (count - 1) x).parent h high (count - 1) n m m' ws ws') map_is v)))
+      going_on d m₀ after.marks.now after.waiting.now turn after.count going n m' ws'
+      (subst (λ (w : Waiting). Visit d w.lsn w.parent (map_of d) (sectors_of d) after.count n after.marks.now m' after.waiting.now ws') next_is
+      (subst (λ (h : ℕ). Visit d next.lsn next.parent (map_of d) h after.count n after.marks.now m' after.waiting.now ws') total_is
+      (subst (λ (h : ℕ). Visit d next.lsn next.parent h high after.count n after.marks.now m' after.waiting.now ws') map_is v)))
 
-  pub turn_finds : (there : high ≤ d.count) (mₑ m' : List ℕ) (ws' : List Waiting) (f : Finding) → VisitAnswer d (get_or ws (count - 1) x).lsn (get_or ws (count - 1) x).parent low high (count - 1) m m' ws ws' (Err f) → WalkAnswer d mₑ m' (Err f)
-  turn_finds there mₑ m' ws' f v =
+  pub turn_finds : (there : high ≤ d.count) (mₑ m' mₓ : List ℕ) (ws' : List Waiting) (f : Finding) → VisitAnswer d next.lsn next.parent low high after.count after.marks.now m' after.waiting.now ws' (Err f) → WalkAnswer d mₑ mₓ (Err f)
+  turn_finds there mₑ m' mₓ ws' f v =
       either f
-      (subst (λ (w : Waiting). VisitAnswer d w.lsn w.parent (map_of d) (sectors_of d) (count - 1) m m' ws ws' (Err f)) last_is
-      (subst (λ (h : ℕ). VisitAnswer d (get_or ws (count - 1) x).lsn (get_or ws (count - 1) x).parent (map_of d) h (count - 1) m m' ws ws' (Err f)) total_is
-      (subst (λ (h : ℕ). VisitAnswer d (get_or ws (count - 1) x).lsn (get_or ws (count - 1) x).parent h high (count - 1) m m' ws ws' (Err f)) map_is v)))
+      (subst (λ (w : Waiting). VisitAnswer d w.lsn w.parent (map_of d) (sectors_of d) after.count after.marks.now m' after.waiting.now ws' (Err f)) next_is
+      (subst (λ (h : ℕ). VisitAnswer d next.lsn next.parent (map_of d) h after.count after.marks.now m' after.waiting.now ws' (Err f)) total_is
+      (subst (λ (h : ℕ). VisitAnswer d next.lsn next.parent h high after.count after.marks.now m' after.waiting.now ws' (Err f)) map_is v)))
     where
-      either : (f : Finding) → VisitAnswer d (get_or ws (count - 1) nobody).lsn (get_or ws (count - 1) nobody).parent (map_of d) (sectors_of d) (count - 1) m m' ws ws' (Err f) → WalkAnswer d mₑ m' (Err f)
-      either (finding.Broken r at) b = going_breaks d m₀ m ws turn (count - 1) going r at b
-      either (finding.Unread w f) b = going_unread d m₀ m ws turn (count - 1) going f (omega (arith, there, total_is)) b.0 b.1 b.2
+      either : (f : Finding) → VisitAnswer d (get_or after.waiting.now after.count nobody).lsn (get_or after.waiting.now after.count nobody).parent (map_of d) (sectors_of d) after.count after.marks.now m' after.waiting.now ws' (Err f) → WalkAnswer d mₑ mₓ (Err f)
+      either (finding.Broken r at) b = going_breaks d m₀ after.marks.now after.waiting.now turn after.count going r at b
+      either (finding.Unread w f) b = going_unread d m₀ after.marks.now after.waiting.now turn after.count going f (omega (arith, there, total_is)) b.0 b.1 b.2

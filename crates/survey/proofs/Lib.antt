@@ -1,5 +1,5 @@
-pub mod Entries
 pub mod Goings
+pub mod Lists
 pub mod Markings
 pub mod Periods
 pub mod Prepares
@@ -8,5 +8,6 @@ pub mod SlotReads
 pub mod Spelt
 pub mod Sweeps
 pub mod Tidied
+pub mod Turns
 pub mod Visits
 pub mod Within

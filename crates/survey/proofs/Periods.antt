@@ -1,10 +1,11 @@
--- The names "." and "..", as they are stored.
-use Rattle.std.proofs.Common.{◌≡◌, ℕ, ◌+◌, ◌-◌, ◌<◌, ◌≤◌, Bool, true, false, cond, eqb, ltb, List, [], ◌∷◌, length, get_or, take, codes, MatchBool, sym, refl, ap, ◌∙◌, ap₂, inl, inr, arith, eq-eqb, ne_eqb}
-use Rattle.std.proofs.lemmas.List.{length-take-le, get_or-take}
+-- Stored names such as those of "." and "..", at the front of a slot.
+use Rattle.std.proofs.Common.{◌≡◌, ℕ, ◌+◌, ◌-◌, ◌<◌, ◌≤◌, Bool, true, false, cond, eqb, ltb, List, [], ◌∷◌, length, get_or, take, MatchBool, sym, refl, ap, ◌∙◌, ap₂, inl, inr, arith, eq-eqb, ne_eqb}
+use Rattle.std.proofs.lemmas.List.{length-take-le, get_or-take, take-take}
 use Rattle.std.proofs.lemmas.Bool.{cases_eq, cases_lt}
 use Rattle.std.proofs.lemmas.Bool.Decides.{nat_tests}
 use Rattle.layout.specs.Directory.{empty, entry, slot, stored_slot}
 use Rattle.layout.specs.Names.{name_of}
+use Rattle.survey.specs.Visiting.{MarkedName}
 
 not_none : (y : ℕ) (ys : List ℕ) → name_of (y ∷ ys) ≡ [] → ⊥
 not_none y ys = either (ltb y 128)
@@ -34,41 +35,43 @@ one_byte x ys high = let test : ltb x 128 ≡ false = grind (arith, nat_tests) i
 plain_byte : (x : ℕ) (ys : List ℕ) → x < 128 → name_of (x ∷ ys) ≡ x ∷ name_of ys
 plain_byte x ys low = let test : ltb x 128 ≡ true = grind (arith, nat_tests) in rw test refl
 
--- by the bytes of a name of at least three
-pub here_is : (xs : List ℕ) → 3 ≤ length xs → get_or xs 0 0 ≡ 174 → name_of xs ≡ codes "."
-here_is [] long e = absurd (omega arith)
-here_is (x ∷ xs) long e = one_byte x xs (omega (arith, e)) ∙ ap (λ n. n ∷ []) (omega (arith, e))
+-- a longer list bears a stored name exactly if it begins with it
+pub front_is : (ns xs : List ℕ) → MarkedName ns → take (length ns) xs ≡ ns → name_of xs ≡ name_of ns
+front_is [] xs ok e = absurd ok
+front_is (n ∷ ns) [] ok e = absurd (let z : ◌≡◌ {A = ℕ} 0 1 = cc in omega arith)
+front_is (n ∷ []) (x ∷ xs) ok e =
+    let first : x ≡ n = cc in
+    one_byte x xs (omega arith) ∙ ap (λ i. (i - 128) ∷ []) first ∙ sym (one_byte n [] ok)
+front_is (n ∷ m ∷ ns) (x ∷ xs) ok e =
+    let first : x ≡ n = cc in
+    let rest : take (length (m ∷ ns)) xs ≡ m ∷ ns = cc in
+    plain_byte x xs (omega (arith, ok.1)) ∙ ap₂ ◌∷◌ first (front_is (m ∷ ns) xs ok.2 rest) ∙ sym (plain_byte n (m ∷ ns) ok.1)
 
-pub here_only : (xs : List ℕ) → 3 ≤ length xs → name_of xs ≡ codes "." → get_or xs 0 0 ≡ 174
-here_only [] long e = absurd (omega arith)
-here_only (x ∷ []) long e = absurd (omega arith)
-here_only (x ∷ y ∷ xs) long e = one_letter x y xs 46 e
+pub front_only : (ns xs : List ℕ) → MarkedName ns → length ns < length xs → name_of xs ≡ name_of ns → take (length ns) xs ≡ ns
+front_only [] xs ok long e = absurd ok
+front_only (n ∷ ns) [] ok long e = absurd (omega arith)
+front_only (n ∷ []) (x ∷ []) ok long e = absurd (omega arith)
+front_only (n ∷ []) (x ∷ y ∷ xs) ok long e =
+    let first : x ≡ n = omega (arith, ok, one_letter x y xs (n - 128) (e ∙ one_byte n [] ok)) in
+    ap (λ i. i ∷ []) first
+front_only (n ∷ m ∷ ns) (x ∷ xs) ok long e =
+    let stored = plain_byte n (m ∷ ns) ok.1 in
+    elim (cases_lt x 128) [
+      | inl low ↦
+          let f : x ∷ name_of xs ≡ n ∷ name_of (m ∷ ns) = sym (plain_byte x xs low) ∙ e ∙ stored in
+          let first : x ≡ n = cc in
+          let rest : name_of xs ≡ name_of (m ∷ ns) = cc in
+          ap₂ ◌∷◌ first (front_only (m ∷ ns) xs ok.2 (omega arith) rest)
+      | inr high ↦
+          let f : (x - 128) ∷ [] ≡ n ∷ name_of (m ∷ ns) = sym (one_byte x xs high) ∙ e ∙ stored in
+          let none : name_of (m ∷ ns) ≡ [] = cc in
+          absurd (not_none m ns none)
+    ]
 
-pub up_is : (xs : List ℕ) → 3 ≤ length xs → get_or xs 0 0 ≡ 46 → get_or xs 1 0 ≡ 174 → name_of xs ≡ codes ".."
-up_is [] long e f = absurd (omega arith)
-up_is (x ∷ []) long e f = absurd (omega arith)
-up_is (x ∷ y ∷ xs) long e f =
-    plain_byte x (y ∷ xs) (omega (arith, e)) ∙ ap₂ ◌∷◌ e (one_byte y xs (omega (arith, f)) ∙ ap (λ n. n ∷ []) (omega (arith, f)))
-
-pub up_only : (xs : List ℕ) → 3 ≤ length xs → name_of xs ≡ codes ".." → (get_or xs 0 0 ≡ 46) × (get_or xs 1 0 ≡ 174)
-up_only [] long e = absurd (omega arith)
-up_only (x ∷ []) long e = absurd (omega arith)
-up_only (x ∷ y ∷ []) long e = absurd (omega arith)
-up_only (x ∷ y ∷ w ∷ xs) long e = elim (cases_lt x 128) [
-  | inl low ↦
-      let f : x ∷ name_of (y ∷ w ∷ xs) ≡ 46 ∷ 46 ∷ [] = sym (plain_byte x (y ∷ w ∷ xs) low) ∙ e in
-      let first : x ≡ 46 = cc in
-      let rest : name_of (y ∷ w ∷ xs) ≡ 46 ∷ [] = cc in
-      (first, one_letter y w xs 46 rest)
-  | inr high ↦
-      let f : (x - 128) ∷ [] ≡ 46 ∷ 46 ∷ [] = sym (one_byte x (y ∷ w ∷ xs) high) ∙ e in
-      absurd (let z : ◌≡◌ {A = ℕ} 0 1 = ap (λ (l : List ℕ). second l) f in omega arith)
-]
-  where
-    second : List ℕ → ℕ
-    second [] = 0
-    second (a ∷ []) = 0
-    second (a ∷ b ∷ l) = 1
+first_used : (ns : List ℕ) → MarkedName ns → get_or ns 0 0 ≡ 0 → ⊥
+first_used [] ok e = ok
+first_used (n ∷ []) ok e = omega (arith, ok, e)
+first_used (n ∷ m ∷ ns) ok e = omega (arith, ok.0, e)
 
 -- a slot that has a name, by its name and its LSN
 pub slot_has : (xs n : List ℕ) (l : ℕ) → (get_or xs 0 0 ≡ 0 → ⊥) → name_of (stored_slot xs).name ≡ n → (stored_slot xs).lsn ≡ l → slot xs ≡ entry n l
@@ -81,34 +84,25 @@ slot_only xs n l = either (eqb (get_or xs 0 0) 0)
     either true e = absurd (let z : ◌≡◌ {A = ℕ} 0 1 = cc in omega arith)
     either false e = (cc, cc)
 
--- a slot of 32 bytes, by its first bytes and its LSN
-module _ (xs : List ℕ) (l : ℕ) (long : length xs ≡ 32) where
-  front : 3 ≤ length (take 28 xs)
-  front = omega (arith, length-take-le 28 xs (omega arith))
+-- a slot of 32 bytes and a stored name, by the slot's first bytes and its LSN
+module _ (xs ns : List ℕ) (l : ℕ) (stored : MarkedName ns) (short : length ns < 28) (long : length xs ≡ 32) where
+  front : take (length ns) (take 28 xs) ≡ take (length ns) xs
+  front = take-take (length ns) 28 xs (omega arith)
 
-  byte : (k : ℕ) → k < 28 → get_or (take 28 xs) k 0 ≡ get_or xs k 0
-  byte k lt = get_or-take 28 xs k 0 lt
+  used : take (length ns) xs ≡ ns → get_or xs 0 0 ≡ 0 → ⊥
+  used same none = first_used ns stored (ap (λ l. get_or l 0 0) (sym same) ∙ get_or-take (length ns) xs 0 0 (some ns stored) ∙ none)
+    where
+      some : (ns : List ℕ) → MarkedName ns → 0 < length ns
+      some [] ok = absurd ok
+      some (n ∷ ns) ok = omega arith
 
-  by_lsn : (name : List ℕ) (n : ℕ) → (get_or xs 0 0 ≡ 0 → ⊥) → name_of (stored_slot xs).name ≡ name → n ≡ (stored_slot xs).lsn → MatchBool (eqb n l) (slot xs ≡ entry name l) (slot xs ≡ entry name l → ⊥)
-  by_lsn name n used is lsn = elim (cases_eq n l) [
-    | inl e ↦ rw (eq-eqb n l e) (slot_has xs name l used is (sym lsn ∙ e))
-    | inr ne ↦ rw (ne_eqb n l ne) (λ e. ne (lsn ∙ (slot_only xs name l e).1))
+  pub slot_named : (n : ℕ) → take (length ns) xs ≡ ns → n ≡ (stored_slot xs).lsn → MatchBool (eqb n l) (slot xs ≡ entry (name_of ns) l) (slot xs ≡ entry (name_of ns) l → ⊥)
+  unfolding stored_slot
+  slot_named n same lsn = elim (cases_eq n l) [
+    | inl e ↦ rw (eq-eqb n l e) (slot_has xs (name_of ns) l (used same) (front_is ns (take 28 xs) stored (front ∙ same)) (sym lsn ∙ e))
+    | inr ne ↦ rw (ne_eqb n l ne) (λ e. ne (lsn ∙ (slot_only xs (name_of ns) l e).1))
   ]
 
-  pub slot_here : (n : ℕ) → get_or xs 0 0 ≡ 174 → n ≡ (stored_slot xs).lsn → MatchBool (eqb n l) (slot xs ≡ entry (codes ".") l) (slot xs ≡ entry (codes ".") l → ⊥)
+  pub slot_not_named : (take (length ns) xs ≡ ns → ⊥) → slot xs ≡ entry (name_of ns) l → ⊥
   unfolding stored_slot
-  slot_here n e lsn = by_lsn (codes ".") n (λ z. omega (arith, z, e)) (here_is (take 28 xs) front (byte 0 (omega arith) ∙ e)) lsn
-
-  pub slot_not_here : (get_or xs 0 0 ≡ 174 → ⊥) → slot xs ≡ entry (codes ".") l → ⊥
-  unfolding stored_slot
-  slot_not_here ne e = ne (sym (byte 0 (omega arith)) ∙ here_only (take 28 xs) front (slot_only xs (codes ".") l e).0)
-
-  pub slot_up : (n : ℕ) → get_or xs 0 0 ≡ 46 → get_or xs 1 0 ≡ 174 → n ≡ (stored_slot xs).lsn → MatchBool (eqb n l) (slot xs ≡ entry (codes "..") l) (slot xs ≡ entry (codes "..") l → ⊥)
-  unfolding stored_slot
-  slot_up n e f lsn = by_lsn (codes "..") n (λ z. omega (arith, z, e)) (up_is (take 28 xs) front (byte 0 (omega arith) ∙ e) (byte 1 (omega arith) ∙ f)) lsn
-
-  pub slot_not_up : ((get_or xs 0 0 ≡ 46) × (get_or xs 1 0 ≡ 174) → ⊥) → slot xs ≡ entry (codes "..") l → ⊥
-  unfolding stored_slot
-  slot_not_up ne e =
-      let both = up_only (take 28 xs) front (slot_only xs (codes "..") l e).0 in
-      ne (sym (byte 0 (omega arith)) ∙ both.0, sym (byte 1 (omega arith)) ∙ both.1)
+  slot_not_named ne e = ne (sym front ∙ front_only ns (take 28 xs) stored (omega (arith, length-take-le 28 xs (omega arith))) (slot_only xs (name_of ns) l e).0)

@@ -1,8 +1,9 @@
-pub mod Entries
+pub mod Lists
 pub mod MapChecks
 pub mod Marks
 pub mod Names
 pub mod Scanning
+pub mod Sectors
 pub mod Slots
 pub mod Taking
 pub mod Visiting

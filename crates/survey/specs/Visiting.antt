@@ -1,5 +1,5 @@
 -- A visit of one descriptor: what it asks, and what is marked and waits after it.
-use Rattle.std.specs.Prelude.{◌≡◌, ℕ, ◌+◌, ◌<◌, ◌≤◌, true, ◌⊎◌, List, ◌++◌, length, take, Ok, Err, codes, Result, slice_index, slice_index_or}
+use Rattle.std.specs.Prelude.{◌≡◌, ℕ, ◌+◌, ◌<◌, ◌≤◌, true, ◌⊎◌, List, [], ◌∷◌, ◌++◌, length, take, Ok, Err, codes, Result, slice_index, slice_index_or}
 use Rattle.devices.specs.Meaning.{Meaning, Refuses}
 use Rattle.layout.specs.Descriptor.{segments, extent}
 use Rattle.layout.specs.Directory.{entry, slot}
@@ -60,6 +60,18 @@ DescriptorAnswer s low high (Err rule.E) = ⊥
 DescriptorAnswer s low high (Err rule.F) = Linked s → ⊥
 DescriptorAnswer s low high (Err rule.G) = ⊥
 DescriptorAnswer s low high (Err rule.H) = ⊥
+
+-- a name as it is stored: bit 7 is set on its last byte, and on no other, and none of them is zero
+abbrev pub MarkedName : List ℕ → Type 0
+MarkedName [] = ⊥
+MarkedName (x ∷ []) = 128 ≤ x
+MarkedName (x ∷ y ∷ ys) = (0 < x) × (x < 128) × MarkedName (y ∷ ys)
+
+-- the slot k of the directory l has a name, and names the descriptor n
+abbrev pub DotAnswer : Meaning → ℕ → ℕ → List ℕ → ℕ → Result Unit Finding → Type 0
+DotAnswer d l k name n (Ok u) = slot (slot_bytes_at d l k) ≡ entry name n
+DotAnswer d l k name n (Err (Broken r at)) = (r ≡ rule.E) × (at ≡ l) × (slot (slot_bytes_at d l k) ≡ entry name n → ⊥)
+DotAnswer d l k name n (Err (Unread w f)) = (0 < times f.lsn (extent (segments (d.sector l)))) × Refuses d f.lsn 256 f
 
 -- slots 0 and 1 of the directory l, whose parent is p
 pub record Dotted (d : Meaning) (l p : ℕ) : Type 0 where

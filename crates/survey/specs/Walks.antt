@@ -3,10 +3,16 @@ use Rattle.std.specs.Prelude.{◌≡◌, ℕ, ◌+◌, ◌<◌, ◌≤◌, true,
 use Rattle.devices.specs.Meaning.{Meaning}
 use Rattle.devices.specs.declared.device.Cause.TheVariants.{Bad}
 use Rattle.layout.specs.Map.{taken}
-use Rattle.rules.specs.Rules.{sectors_of, Owned, Wanted, Broken as BrokenAt}
+use Rattle.rules.specs.Rules.{sectors_of, map_of, root_at, Owned, Wanted, Broken as BrokenAt}
 use Rattle.rules.specs.Walking.{system, hit, Walked}
 use Rattle.survey.specs.declared.finding.Finding.{Finding}
 use Rattle.survey.specs.declared.finding.Finding.TheVariants.{Broken, Unread}
+
+-- the root, the last sector of the map and the number of sectors are those of the identification sector
+pub record Identified (d : Meaning) (root low high : ℕ) : Type 0 where
+  pub total : high ≡ sectors_of d
+  pub map : low ≡ map_of d
+  pub top : root ≡ root_at d
 
 -- the marks before the first visit: the system's sectors and the root's descriptor
 pub record Prepared (low high root : ℕ) (marks marks' : List ℕ) : Type 0 where

@@ -1,36 +1,48 @@
-ghost use Rattle.std.specs.Prelude.{◌≡◌, ℕ, ◌*◌, ◌<◌, ◌≤◌, length, codes, MatchBool, ◌≢◌, slice_index};
+ghost use Rattle.std.specs.Prelude.{◌≡◌, ℕ, ◌*◌, ◌+◌, ◌<◌, ◌≤◌, length, MatchBool, ◌≢◌, slice_index};
 ghost use Rattle.layout.specs.Descriptor.{size, segments, extent};
-ghost use Rattle.survey.specs.Visiting.{DotsAnswer};
+ghost use Rattle.layout.specs.Names.{name_of};
+ghost use Rattle.survey.specs.Visiting.{MarkedName, DotAnswer, DotsAnswer};
 ghost use Rattle.layout.specs.Directory.{entry, slot as slot_in};
 
-use super::finding::{Finding, Reading};
+use super::finding::Finding;
 use super::slot_taking::named_in;
 use super::slots::read_slot;
 use devices::device::Device;
 use layout::names::{HERE, UP};
 use rules::rule::Rule;
 
-// Whether a slot is ".", and names this descriptor.
-pub fn is_here(slot: &[u8; 32], lsn: usize) -> bool
-    ensures { MatchBool result (slot_in slot.now ≡ entry (codes ".") lsn) (slot_in slot.now ≢ entry (codes ".") lsn) }
+// Whether a slot has this stored name, and names this descriptor.
+pub fn is_dot(slot: &[u8; 32], name: &[u8], lsn: usize) -> bool
+    requires stored { MarkedName name.now }
+    requires short { length name.now < 28 }
+    ensures { MatchBool result (slot_in slot.now ≡ entry (name_of name.now) lsn) (slot_in slot.now ≢ entry (name_of name.now) lsn) }
 {
-    if slot[0] != HERE[0] {
-        return false;
-    }
-    named_in(slot) == lsn
+    slot.starts_with(name) && named_in(slot) == lsn
 }
 
-// Whether a slot is "..", and names this descriptor.
-pub fn is_up(slot: &[u8; 32], lsn: usize) -> bool
-    ensures { MatchBool result (slot_in slot.now ≡ entry (codes "..") lsn) (slot_in slot.now ≢ entry (codes "..") lsn) }
+// Asks that the slot k of the directory `lsn` has this stored name, and names this descriptor.
+// The directory's descriptor and its LSN go side by side, here and in a scan: a type that ties them would have to hold the device as well, to say how.
+fn check_dot<D: Device>(
+    device: &D,
+    descriptor: &[u8; 256],
+    lsn: usize,
+    k: usize,
+    name: &[u8],
+    named: usize,
+) -> Result<(), Finding>
+    requires stored { MarkedName name.now }
+    requires short { length name.now < 28 }
+    requires is { descriptor.now ≡ (D.Device.meaning device.now).sector lsn }
+    requires held { k * 32 + 32 ≤ size descriptor.now }
+    requires enough { size descriptor.now ≤ 256 * length (extent (segments descriptor.now)) }
+    requires wide { (i : ℕ) → i < length (extent (segments descriptor.now)) → length ((D.Device.meaning device.now).sector (slice_index (extent (segments descriptor.now)) i)) ≡ 256 }
+    ensures { DotAnswer (D.Device.meaning device.now) lsn k (name_of name.now) named result }
 {
-    if slot[0] != UP[0] {
-        return false;
-    }
-    if slot[1] != UP[1] {
-        return false;
-    }
-    named_in(slot) == lsn
+    let slot = read_slot(device, descriptor, k)?;
+    let true = is_dot(&slot, name, named) else {
+        return Err(Finding::broken(Rule::E, lsn));
+    };
+    Ok(())
 }
 
 // Asks that slots 0 and 1 of the directory `lsn` are "." and "..", naming itself and its parent.
@@ -46,35 +58,6 @@ pub fn check_dots<D: Device>(
     requires wide { (i : ℕ) → i < length (extent (segments descriptor.now)) → length ((D.Device.meaning device.now).sector (slice_index (extent (segments descriptor.now)) i)) ≡ 256 }
     ensures { DotsAnswer (D.Device.meaning device.now) lsn parent result }
 {
-    let here = match read_slot(device, descriptor, 0) {
-        Ok(slot) => slot,
-        Err(fault) => {
-            return Err(Finding::Unread {
-                reading: Reading::Directory,
-                fault,
-            });
-        }
-    };
-    let true = is_here(&here, lsn) else {
-        return Err(Finding::Broken {
-            rule: Rule::E,
-            sector: lsn,
-        });
-    };
-    let up = match read_slot(device, descriptor, 1) {
-        Ok(slot) => slot,
-        Err(fault) => {
-            return Err(Finding::Unread {
-                reading: Reading::Directory,
-                fault,
-            });
-        }
-    };
-    let true = is_up(&up, parent) else {
-        return Err(Finding::Broken {
-            rule: Rule::E,
-            sector: lsn,
-        });
-    };
-    Ok(())
+    check_dot(device, descriptor, lsn, 0, &HERE, lsn)?;
+    check_dot(device, descriptor, lsn, 1, &UP, parent)
 }

@@ -1,3 +1,5 @@
+ghost use Rattle.std.specs.Prelude.{◌≡◌};
+
 use devices::device::DeviceFault;
 use rules::rule::Rule;
 
@@ -12,7 +14,7 @@ pub enum Reading {
 }
 
 // What ends a survey with no pass: a rule that is broken at a sector, or a sector that must be good and is not.
-#[derive(Clone, Copy)]
+#[derive(Clone, Copy, PartialEq, Eq, Debug)]
 pub enum Finding {
     Broken {
         rule: Rule,
@@ -22,4 +24,13 @@ pub enum Finding {
         reading: Reading,
         fault: DeviceFault,
     },
+}
+
+impl Finding {
+    // A rule that is broken at a sector.
+    pub(crate) fn broken(rule: Rule, sector: usize) -> Finding
+        ensures { result ≡ Finding.Broken rule sector }
+    {
+        Finding::Broken { rule, sector }
+    }
 }

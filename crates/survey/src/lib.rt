@@ -2,18 +2,21 @@
 
 #![tactic(auto)]
 
+pub mod bounds;
 pub mod descriptor_checks;
 pub mod dots;
 pub mod finding;
 pub mod known_names;
 pub mod map_checks;
 pub mod marking;
-pub mod places;
 pub mod scan;
 pub mod sector_checks;
+mod sectors;
 pub mod slot_checks;
 pub mod slot_taking;
 pub mod slots;
+pub mod subject;
 pub mod visit;
 pub mod waiting;
 pub mod walk;
+pub mod work_lists;

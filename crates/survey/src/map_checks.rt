@@ -2,12 +2,10 @@ ghost use Rattle.std.specs.Prelude.{◌≡◌, ℕ, ◌+◌, ◌*◌, ◌<◌, �
 ghost use Rattle.survey.specs.MapChecks.{SectorAnswer, RowAnswer, MapAnswer};
 
 use super::finding::{Finding, Reading};
-use devices::device::{Device, SECTOR};
-use layout::bitmap::{is_set, map_length};
+use super::sectors::load;
+use devices::device::Device;
+use layout::bitmap::{BITS, is_set, map_length};
 use rules::rule::Rule;
-
-// How many bits a sector of the map has.
-const BITS: usize = 2048;
 
 // Asks of one sector that its bit is set where it is marked, and that it is good where it is marked or clear.
 fn check_sector<D: Device>(device: &D, k: usize, mark: u8, set: bool) -> Result<(), Finding>
@@ -17,19 +15,10 @@ fn check_sector<D: Device>(device: &D, k: usize, mark: u8, set: bool) -> Result<
     if set && mark == 0 {
         return Ok(());
     }
-    if mark != 0 && !set {
-        return Err(Finding::Broken {
-            rule: Rule::H,
-            sector: k,
-        });
-    }
-    let mut sector = [0u8; SECTOR];
-    if let Err(fault) = device.read(k, &mut sector) {
-        return Err(Finding::Unread {
-            reading: Reading::Sector,
-            fault,
-        });
-    }
+    let true = (set || mark == 0) else {
+        return Err(Finding::broken(Rule::H, k));
+    };
+    load(device, k, Reading::Sector)?;
     Ok(())
 }
 
@@ -46,10 +35,8 @@ fn check_row<D: Device>(
     requires there { first + n ≤ (D.Device.meaning device.now).count }
     ensures { RowAnswer (D.Device.meaning device.now) marks.now row.now first n result }
 {
-    for i in 0..n {
-        if let Err(finding) = check_sector(device, first + i, marks[first + i], is_set(row, i)) {
-            return Err(finding);
-        }
+    for (i, mark) in marks[first..first + n].iter().enumerate() {
+        check_sector(device, first + i, *mark, is_set(row, i))?;
     }
     Ok(())
 }
@@ -62,18 +49,10 @@ pub fn check_map<D: Device>(device: &D, marks: &[u8], total: usize) -> Result<()
     requires there { total ≤ (D.Device.meaning device.now).count }
     ensures { MapAnswer (D.Device.meaning device.now) marks.now total result }
 {
-    let mut row = [0u8; SECTOR];
     for index in 0..map_length(total) {
-        if let Err(fault) = device.read(1 + index, &mut row) {
-            return Err(Finding::Unread {
-                reading: Reading::Map,
-                fault,
-            });
-        }
+        let row = load(device, 1 + index, Reading::Map)?;
         let first = index * BITS;
-        if let Err(finding) = check_row(device, marks, &row, first, BITS.min(total - first)) {
-            return Err(finding);
-        }
+        check_row(device, marks, &row, first, BITS.min(total - first))?;
     }
     Ok(())
 }

@@ -11,15 +11,15 @@ pub fn is_stored_name(stored: &[u8]) -> bool
     ensures { MatchBool result (StoredName stored.now) (StoredName stored.now → ⊥) }
 {
     let mut proper = false;
-    for i in 0..stored.len() {
-        let letter = stored[i] % 128;
+    for byte in stored {
+        let letter = *byte % 128;
         if !is_name_byte(letter) {
             return false;
         }
         if letter != b'.' {
             proper = true;
         }
-        if stored[i] >= 128 {
+        if *byte >= 128 {
             return proper;
         }
     }
@@ -27,14 +27,10 @@ pub fn is_stored_name(stored: &[u8]) -> bool
 }
 
 // Whether a used slot has a lawful name, and byte 28 zero.
-pub fn is_slot_right(slot: &[u8]) -> bool
-    requires { length slot.now ≡ 32 }
+pub fn is_slot_right(slot: &[u8; 32]) -> bool
     ensures { MatchBool result (SlotRight slot.now) (SlotRight slot.now → ⊥) }
 {
-    if slot[28] != 0 {
-        return false;
-    }
-    is_stored_name(&slot[0..28])
+    slot[28] == 0 && is_stored_name(&slot[0..28])
 }
 
 // A stored name with zeros behind its last byte.
@@ -43,12 +39,10 @@ pub fn tidy_name(stored: &[u8]) -> [u8; 28]
     requires lawful { StoredName stored.now }
     ensures { result ≡ slot_name (marked (name_of stored.now)) }
 {
+    let Some(last) = stored.iter().position(|byte| *byte >= 128) else {
+        unreachable()
+    };
     let mut name = [0u8; 28];
-    for i in 0..28 {
-        name[i] = stored[i];
-        if stored[i] >= 128 {
-            return name;
-        }
-    }
-    unreachable()
+    name[..last + 1].copy_from_slice(&stored[..last + 1]);
+    name
 }

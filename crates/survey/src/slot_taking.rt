@@ -1,11 +1,14 @@
 ghost use Rattle.std.specs.Prelude.{◌≡◌, ℕ, ◌<◌, ◌≤◌, length, slice_index};
 ghost use Rattle.layout.specs.Directory.{stored_slot as slot_in};
+ghost use Rattle.survey.specs.Lists.{Kept, counted};
 ghost use Rattle.survey.specs.Taking.{SlotTaken, names as named};
 
+use super::bounds::Bounds;
 use super::finding::Finding;
 use super::known_names::is_known;
 use super::slot_checks::{is_slot_right, tidy_name};
 use super::waiting::Waiting;
+use super::work_lists::WorkLists;
 use layout::numbers::number_at;
 use rules::rule::Rule;
 
@@ -16,56 +19,44 @@ pub fn named_in(slot: &[u8; 32]) -> usize
     number_at(slot, 29, 3)
 }
 
-// Takes one slot of the directory `lsn`: an empty one asks nothing, and what a used one names is marked and waits.
+// Takes one slot of the directory `lsn`: an empty one asks nothing, and what a used one names is marked and waits behind the first `base`.
 pub fn take_slot(
     slot: &[u8; 32],
     lsn: usize,
-    low: usize,
-    high: usize,
-    marks: &mut [u8],
-    waiting: &mut [Waiting],
+    bounds: Bounds,
     base: usize,
-    count: usize,
-) -> Result<usize, Finding>
-    requires marked { high ≤ length marks.old }
-    requires some { count ≤ length waiting.old }
-    requires room { (c : ℕ) → c < high → slice_index marks.old c ≡ 0 → count < length waiting.old }
-    ensures { SlotTaken slot.now lsn low high base count marks.old marks.new waiting.old waiting.new result }
+    lists: &mut WorkLists<'_>,
+) -> Result<(), Finding>
+    requires marked { bounds.high ≤ length lists.old.marks.now }
+    requires some { lists.old.count ≤ length lists.old.waiting.now }
+    requires room { (c : ℕ) → c < bounds.high → slice_index lists.old.marks.now c ≡ 0 → lists.old.count < length lists.old.waiting.now }
+    ensures kept { Kept lists.old lists.new }
+    ensures taken { SlotTaken slot.now lsn bounds.low bounds.high base lists.old.count lists.old.marks.now lists.new.marks.now lists.old.waiting.now lists.new.waiting.now (counted lists.new.count result) }
 {
     if slot[0] == 0 {
-        return Ok(count);
+        return Ok(());
     }
-    if !is_slot_right(slot) {
-        return Err(Finding::Broken {
-            rule: Rule::E,
-            sector: lsn,
-        });
-    }
+    let true = is_slot_right(slot) else {
+        return Err(Finding::broken(Rule::E, lsn));
+    };
     let name = tidy_name(&slot[0..28]);
-    if is_known(waiting, base, count, &name) {
-        return Err(Finding::Broken {
-            rule: Rule::E,
-            sector: lsn,
-        });
-    }
+    // borrowed anew: of a field that is passed as it is, only the length is known afterwards
+    let waiting = &mut *lists.waiting;
+    let false = is_known(waiting, base, lists.count, &name) else {
+        return Err(Finding::broken(Rule::E, lsn));
+    };
     let child = named_in(slot);
-    if child <= low || child >= high {
-        return Err(Finding::Broken {
-            rule: Rule::B,
-            sector: lsn,
-        });
-    }
-    if marks[child] != 0 {
-        return Err(Finding::Broken {
-            rule: Rule::G,
-            sector: child,
-        });
-    }
-    marks[child] = 1;
-    waiting[count] = Waiting {
+    let true = bounds.contains(child) else {
+        return Err(Finding::broken(Rule::B, lsn));
+    };
+    let 0 = lists.marks[child] else {
+        return Err(Finding::broken(Rule::G, child));
+    };
+    lists.mark(child);
+    lists.push(Waiting {
         lsn: child,
         parent: lsn,
         name,
-    };
-    Ok(count + 1)
+    });
+    Ok(())
 }

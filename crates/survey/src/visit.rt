@@ -1,7 +1,4 @@
-ghost use Rattle.std.specs.Prelude.{ℕ, ◌<◌, ◌≤◌, length, slice_index};
-ghost use Rattle.devices.specs.Meaning.{Whole};
-ghost use Rattle.rules.specs.Nodes.{times};
-ghost use Rattle.survey.specs.Scanning.{lsns};
+ghost use Rattle.survey.specs.Lists.{Kept, Ready, counted};
 ghost use Rattle.survey.specs.Visiting.{VisitAnswer};
 
 use super::descriptor_checks::{check_descriptor, is_directory};
@@ -9,53 +6,31 @@ use super::dots::check_dots;
 use super::finding::{Finding, Reading};
 use super::marking::mark_segments;
 use super::scan::scan_slots;
-use super::waiting::Waiting;
-use devices::device::{Device, SECTOR};
+use super::sectors::load;
+use super::subject::Subject;
+use super::work_lists::WorkLists;
+use devices::device::Device;
 use rules::rule::Rule;
 
-// Visits one descriptor: asks what the rules ask of it, marks its sectors, and what it names waits behind the first `base`.
+// Visits one descriptor: asks what the rules ask of it, marks its sectors, and what it names waits behind those that did.
 pub fn visit<D: Device>(
-    device: &D,
+    subject: &Subject<'_, D>,
     lsn: usize,
     parent: usize,
-    low: usize,
-    high: usize,
-    marks: &mut [u8],
-    waiting: &mut [Waiting],
-    base: usize,
-) -> Result<usize, Finding>
-    requires many { high ≤ 65536 }
-    requires there { high ≤ (D.Device.meaning device.now).count }
-    requires whole { Whole (D.Device.meaning device.now) }
-    requires room { high ≤ length waiting.old }
-    requires marked { high ≤ length marks.old }
-    requires some { base ≤ length waiting.old }
-    requires small { (c : ℕ) → c < high → slice_index marks.old c ≤ 1 }
-    requires listed { (c : ℕ) → times c (lsns base waiting.old) ≤ slice_index marks.old c }
-    requires inside { (c : ℕ) → 0 < times c (lsns base waiting.old) → c < high }
-    ensures { VisitAnswer (D.Device.meaning device.now) lsn parent low high base marks.old marks.new waiting.old waiting.new result }
+    lists: &mut WorkLists<'_>,
+) -> Result<(), Finding>
+    requires { Ready subject.now.bounds.high lists.old }
+    ensures kept { Kept lists.old lists.new }
+    ensures visited { VisitAnswer (D.Device.meaning subject.now.device.now) lsn parent subject.now.bounds.low subject.now.bounds.high lists.old.count lists.old.marks.now lists.new.marks.now lists.old.waiting.now lists.new.waiting.now (counted lists.new.count result) }
 {
-    let mut descriptor = [0u8; SECTOR];
-    if let Err(fault) = device.read(lsn, &mut descriptor) {
-        return Err(Finding::Unread {
-            reading: Reading::Descriptor,
-            fault,
-        });
-    }
-    if let Err(rule) = check_descriptor(&descriptor, low, high) {
-        return Err(Finding::Broken { rule, sector: lsn });
-    }
-    if let Some(sector) = mark_segments(marks, &descriptor) {
-        return Err(Finding::Broken {
-            rule: Rule::G,
-            sector,
-        });
-    }
+    let descriptor = load(subject.device, lsn, Reading::Descriptor)?;
+    check_descriptor(&descriptor, subject.bounds).map_err(|rule| Finding::broken(rule, lsn))?;
+    // borrowed anew: of a field that is passed as it is, only the length is known afterwards
+    let marks = &mut *lists.marks;
+    mark_segments(marks, &descriptor).map_err(|sector| Finding::broken(Rule::G, sector))?;
     if !is_directory(&descriptor) {
-        return Ok(base);
+        return Ok(());
     }
-    if let Err(finding) = check_dots(device, &descriptor, lsn, parent) {
-        return Err(finding);
-    }
-    scan_slots(device, &descriptor, lsn, low, high, marks, waiting, base)
+    check_dots(subject.device, &descriptor, lsn, parent)?;
+    scan_slots(subject, &descriptor, lsn, lists)
 }

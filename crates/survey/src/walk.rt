@@ -1,73 +1,52 @@
-ghost use Rattle.std.specs.Prelude.{◌≡◌, ℕ, ◌<◌, ◌≤◌, length};
-ghost use Rattle.devices.specs.Meaning.{Whole};
-ghost use Rattle.rules.specs.Rules.{sectors_of, map_of, root_at, Inside};
-ghost use Rattle.survey.specs.Walks.{Prepared, WalkAnswer};
+ghost use Rattle.std.specs.Prelude.{◌<◌, ◌≤◌, length};
+ghost use Rattle.rules.specs.Rules.{root_at, Inside};
+ghost use Rattle.survey.specs.Walks.{Identified, Prepared, WalkAnswer};
 
+use super::bounds::Bounds;
 use super::finding::Finding;
+use super::subject::Subject;
 use super::visit::visit;
 use super::waiting::Waiting;
+use super::work_lists::WorkLists;
 use devices::device::Device;
 
 // Marks the system's sectors and the root's descriptor, and no other sector of the volume.
-fn prepare(marks: &mut [u8], low: usize, high: usize, root: usize)
-    requires long { high ≤ length marks.old }
-    requires behind { low < root }
-    ensures { Prepared low high root marks.old marks.new }
+fn prepare(marks: &mut [u8], bounds: Bounds, root: usize)
+    requires long { bounds.high ≤ length marks.old }
+    requires behind { bounds.low < root }
+    ensures { Prepared bounds.low bounds.high root marks.old marks.new }
 {
-    for k in 0..high {
-        if k <= low || k == root {
-            marks[k] = 1;
-        } else {
-            marks[k] = 0;
-        }
+    for (k, mark) in marks[..bounds.high].iter_mut().enumerate() {
+        *mark = u8::from(k <= bounds.low || k == root);
     }
 }
 
-// Walks from the root to every descriptor that is reached, and visits each once. What waits is a stack in the lent list.
+// Walks from the root to every descriptor that is reached, and visits each once.
 pub fn walk<D: Device>(
-    device: &D,
+    subject: &Subject<'_, D>,
     root: usize,
-    low: usize,
-    high: usize,
     marks: &mut [u8],
     waiting: &mut [Waiting],
 ) -> Result<(), Finding>
-    requires total { high ≡ sectors_of (D.Device.meaning device.now) }
-    requires map { low ≡ map_of (D.Device.meaning device.now) }
-    requires top { root ≡ root_at (D.Device.meaning device.now) }
-    requires inside { Inside (D.Device.meaning device.now) (root_at (D.Device.meaning device.now)) }
-    requires many { high ≤ 65536 }
-    requires there { high ≤ (D.Device.meaning device.now).count }
-    requires whole { Whole (D.Device.meaning device.now) }
-    requires room { high ≤ length waiting.old }
-    requires marked { high ≤ length marks.old }
-    ensures { WalkAnswer (D.Device.meaning device.now) marks.old marks.new result }
+    requires identified { Identified (D.Device.meaning subject.now.device.now) root subject.now.bounds.low subject.now.bounds.high }
+    requires inside { Inside (D.Device.meaning subject.now.device.now) (root_at (D.Device.meaning subject.now.device.now)) }
+    requires room { subject.now.bounds.high ≤ length waiting.old }
+    requires marked { subject.now.bounds.high ≤ length marks.old }
+    ensures { WalkAnswer (D.Device.meaning subject.now.device.now) marks.old marks.new result }
 {
-    prepare(marks, low, high, root);
-    waiting[0] = Waiting {
+    prepare(marks, subject.bounds, root);
+    let mut lists = WorkLists::new(marks, waiting);
+    lists.push(Waiting {
         lsn: root,
         parent: root,
         name: [0; 28],
-    };
-    let mut count = 1;
-    for turn in 0..high {
-        if count == 0 {
+    });
+    // each turn visits one more sector, and so no more turns are needed than there are sectors
+    for turn in 0..subject.bounds.high {
+        let Some(next) = lists.pop() else {
             return Ok(());
-        }
-        let next = waiting[count - 1];
-        match visit(
-            device,
-            next.lsn,
-            next.parent,
-            low,
-            high,
-            marks,
-            waiting,
-            count - 1,
-        ) {
-            Ok(n) => count = n,
-            Err(finding) => return Err(finding),
-        }
+        };
+        visit(subject, next.lsn, next.parent, &mut lists)?;
     }
     Ok(())
 }

@@ -5,28 +5,27 @@ use Rattle.devices.specs.Meaning.{Meaning}
 use Rattle.layout.specs.Directory.{Slot}
 use Rattle.layout.specs.Identification.{total}
 use Rattle.rules.specs.Nodes.{times, ReachedBy, by_name}
-use Rattle.rules.specs.Rules.{sectors_of, map_of, root_at}
+use Rattle.rules.specs.Rules.{sectors_of, root_at}
 use Rattle.rules.proofs.Times.{hit_is, hit_self, times-++}
-use Rattle.table.specs.Counts.{occupied}
 use Rattle.table.specs.Entries.{Entry, Table, present, held, names, up_of, Upward}
 use Rattle.table.specs.Laws.{AddKeeps}
 use Rattle.table.specs.Standing.{Shows, Stands}
 use Rattle.table.specs.Updates.{Added}
 use Rattle.table.proofs.Leaves.{Leaf, leaf_ups, leaf_present, leaf_one, leaf_names, leaf_others, leaf_more, leaf_balance}
-use Rattle.table.proofs.Occupied.{occupied_small, occupied_below}
+use Rattle.table.proofs.Occupied.{occupied_below}
 use Rattle.table.proofs.Reaches.{reach_more}
 use Rattle.table.proofs.Spaces.{of_entry, below, held_taken, clear_none, named_there, root_there}
 use Rattle.table.proofs.Updating.{update_stands}
 
 module _ (d d' : Meaning) (w : ℕ → ℕ) (t t' : Table) (p : ℕ) (e e' : Entry) (x : ℕ) (f : Entry) (s : Stands d w t) (c : Added d d' t t' p e e' x f) where
   free : t x ≡ None
-  free = clear_none (sectors_of d) t s.within (map_of d) w (occupied d) (occupied_small d) s.space x c.clear
+  free = clear_none d w t s x c.clear
 
   ne : p ≡ x → ⊥
   ne q = omega (arith, ap present (ap t q ∙ free), ap present c.was)
 
   low_p : p < sectors_of d
-  low_p = below (sectors_of d) t s.within p (omega (arith, ap present c.was))
+  low_p = below d w t s p (omega (arith, ap present c.was))
 
   held_as : (k : ℕ) → times k (held p (t p)) ≡ times k (held p (Some e))
   held_as k = ap (λ o. times k (held p o)) c.was
@@ -39,18 +38,18 @@ module _ (d d' : Meaning) (w : ℕ → ℕ) (t t' : Table) (p : ℕ) (e e' : Ent
   low_x =
       let zero : d'.sector 0 ≡ d.sector 0 = c.kept.2 0 (omega (arith, s.rule_a.least, s.rule_a.fits)) (inl refl) in
       let not-held : times x (held p (t p)) ≡ 0 = elim (cases_lt 0 (times x (held p (t p)))) [
-        | inl pos ↦ absurd (omega (arith, c.clear, (held_taken (sectors_of d) t s.within (map_of d) w (occupied d) (occupied_small d) s.space p x pos).0))
+        | inl pos ↦ absurd (omega (arith, c.clear, (held_taken d w t s p x pos).0))
         | inr le ↦ omega arith
       ] in
       omega (arith, ap total zero, occupied_below d' x (omega (arith, c.bits x, held_as x, not-held, hit_self x)))
 
   root_not : root_at d ≡ x → ⊥
-  root_not q = omega (arith, root_there (sectors_of d) t s.within (root_at d) s.tree, ap present (ap t q ∙ free))
+  root_not q = omega (arith, root_there d w t s, ap present (ap t q ∙ free))
 
   -- nothing named the leaf before
   unnamed : (q : ℕ) → times x (names (t q)) ≡ 0
   unnamed q = elim (cases_lt 0 (times x (names (t q)))) [
-    | inl pos ↦ absurd (omega (arith, named_there (sectors_of d) t s.within (root_at d) s.tree q x pos, ap present free))
+    | inl pos ↦ absurd (omega (arith, named_there d w t s q x pos, ap present free))
     | inr le ↦ omega arith
   ]
 

@@ -4,14 +4,12 @@ use Rattle.std.proofs.lemmas.Bool.{cases_eq}
 use Rattle.devices.specs.Meaning.{Meaning}
 use Rattle.layout.specs.Directory.{Slot}
 use Rattle.rules.specs.Nodes.{times}
-use Rattle.rules.specs.Rules.{sectors_of, map_of, root_at}
+use Rattle.rules.specs.Rules.{sectors_of, root_at}
 use Rattle.rules.proofs.Times.{times-++}
-use Rattle.table.specs.Counts.{occupied}
 use Rattle.table.specs.Entries.{Entry, Table, present, held, names, up_of, Upward}
 use Rattle.table.specs.Laws.{ChangeKeeps}
 use Rattle.table.specs.Standing.{Shows, Stands}
 use Rattle.table.specs.Updates.{Changed}
-use Rattle.table.proofs.Occupied.{occupied_small}
 use Rattle.table.proofs.Reaches.{reach_more}
 use Rattle.table.proofs.Spaces.{of_entry, below, system_none}
 use Rattle.table.proofs.Updating.{update_stands}
@@ -19,7 +17,7 @@ use Rattle.table.proofs.Updating.{update_stands}
 module _ (d d' : Meaning) (w : ℕ → ℕ) (t t' : Table) (x : ℕ) (e e' : Entry) (s : Stands d w t) (c : Changed d d' t t' x e e') where
   -- LSN 0 is the second place: there is no entry, before or after
   none_at : t 0 ≡ None
-  none_at = system_none (sectors_of d) t s.within (map_of d) w (occupied d) (occupied_small d) s.space 0 (omega arith)
+  none_at = system_none d w t s 0 (omega arith)
 
   ne : x ≡ 0 → ⊥
   ne q = let a = ap present (ap t q ∙ none_at) in let b = ap present c.was in omega arith
@@ -45,7 +43,7 @@ module _ (d d' : Meaning) (w : ℕ → ℕ) (t t' : Table) (x : ℕ) (e e' : Ent
 
   change_stands : Stands d' w t'
   change_stands =
-      let low : x < sectors_of d = below (sectors_of d) t s.within x (omega (arith, ap present c.was)) in
+      let low : x < sectors_of d = below d w t s x (omega (arith, ap present c.was)) in
       let ups : (l : ℕ) → up_of (t' l) ≡ up_of (t l) = shared up_of c.up in
       update_stands d d' w t t' s x 0 ne low (omega (arith, s.rule_a.least)) (λ l nx n0. c.others l nx) (held x (Some e) ++ held x (Some e')) c.kept
       (λ k a b a' b'. omega (arith, times-++ k (held x (Some e)) (held x (Some e')), held_as k, held_as' k))

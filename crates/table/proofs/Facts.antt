@@ -11,7 +11,6 @@ use Rattle.rules.specs.Rules.{sectors_of, map_of, root_at}
 use Rattle.rules.proofs.Members.{get_or-times}
 use Rattle.rules.proofs.Times.{hit_is}
 use Rattle.rules.proofs.Walks.{system_is}
-use Rattle.table.specs.Counts.{occupied}
 use Rattle.table.specs.Entries.{file, directory, Entry, Table, read_entry, present, held, named_in, names, up_slot, up_of, dots, Upward}
 use Rattle.table.specs.Standing.{Lawful, SlotsLawful, Stands}
 use Rattle.table.proofs.Fields.{directory_read, file_read}
@@ -24,7 +23,7 @@ use Rattle.table.proofs.Spaces.{below, held_taken, held_once, clear_none, named_
 use Rattle.table.proofs.Sums.{sum_some}
 
 kinds : {ss : List Slot} {xs : List ℕ} → file xs ≡ directory ss → ⊥
-kinds e = let z : ◌≡◌ {A = ℕ} 0 1 = cc in omega arith
+kinds e = cc
 
 file_bytes : {xs ys : List ℕ} → file xs ≡ file ys → xs ≡ ys
 file_bytes e = cc
@@ -39,7 +38,7 @@ module _ (d : Meaning) (w : ℕ → ℕ) (t : Table) (s : Stands d w t) where
   -- a sector that an entry holds lies behind the map and in the volume, and is good
   pub held_good : (l k : ℕ) → 0 < times k (held l (t l)) → (map_of d < k) × (k < sectors_of d) × (d.bad k ≡ false)
   held_good l k pos =
-      let h = held_taken (sectors_of d) t s.within (map_of d) w (occupied d) (occupied_small d) s.space l k pos in
+      let h = held_taken d w t s l k pos in
       let lt = occupied_below d k (omega (arith, h.0)) in
       (h.1, lt, s.good k lt h.2)
 
@@ -57,7 +56,7 @@ module _ (d : Meaning) (w : ℕ → ℕ) (t : Table) (s : Stands d w t) where
   clear_good k lt clear =
       let z = taken_none (taken d.sector) (sectors_of d) k clear in
       let behind : map_of d < k = elim (system_is (map_of d) k) [ inl h ↦ absurd (omega (arith, h.1, z, s.space k)) | inr h ↦ h.0 ] in
-      (behind, s.good k lt (omega (arith, z, s.space k)), clear_none (sectors_of d) t s.within (map_of d) w (occupied d) (occupied_small d) s.space k z)
+      (behind, s.good k lt (omega (arith, z, s.space k)), clear_none d w t s k z)
 
   -- every entry but the root has one parent
   pub parent_there : (l : ℕ) → 0 < present (t l) → (l ≡ root_at d → ⊥) → (p : ℕ) × (0 < times l (names (t p)))
@@ -69,7 +68,7 @@ module _ (d : Meaning) (w : ℕ → ℕ) (t : Table) (s : Stands d w t) where
   pub one_parent : (p q l : ℕ) → 0 < times l (names (t p)) → 0 < times l (names (t q)) → p ≡ q
   one_parent p q l a b = elim (cases_eq p q) [
     | inl e ↦ e
-    | inr ne ↦ absurd (omega (arith, naming_two (sectors_of d) t s.within l p q ne, s.tree.named l, present_small (t l)))
+    | inr ne ↦ absurd (omega (arith, naming_two d w t s l p q ne, s.tree.named l, present_small (t l)))
   ]
 
   module _ (l : ℕ) (e : Entry) (is : t l ≡ Some e) where
@@ -77,11 +76,11 @@ module _ (d : Meaning) (w : ℕ → ℕ) (t : Table) (s : Stands d w t) where
     there = omega (arith, ap present is)
 
     pub entry_below : l < sectors_of d
-    entry_below = below (sectors_of d) t s.within l there
+    entry_below = below d w t s l there
 
     -- the sectors of its segments: each once, and none is its descriptor
     pub extent_once : (k : ℕ) → times k (l ∷ extent e.segments) ≤ 1
-    extent_once k = omega (arith, ap (λ o. times k (held l o)) is, held_once (sectors_of d) t s.within (map_of d) w (occupied d) (occupied_small d) s.space l k)
+    extent_once k = omega (arith, ap (λ o. times k (held l o)) is, held_once d w t s l k)
 
     pub extent_good : (k : ℕ) → 0 < times k (l ∷ extent e.segments) → (map_of d < k) × (k < sectors_of d) × (d.bad k ≡ false)
     extent_good k pos = held_good l k (omega (arith, pos, ap (λ o. times k (held l o)) is))
@@ -149,7 +148,7 @@ module _ (d : Meaning) (w : ℕ → ℕ) (t : Table) (s : Stands d w t) where
       pub child_there : (i : ℕ) (n : List ℕ) (x : ℕ) → 2 ≤ i → get_or ss i empty ≡ entry n x → (0 < times x (names (t l))) × (0 < present (t x)) × (x ≡ root_at d → ⊥)
       child_there i n x two at =
           let named : 0 < times x (names (t l)) = omega (arith, child_has x ss i n two at, ap (λ o. times x (names o)) is, ap (λ b. times x (named_in b)) dir) in
-          (named, named_there (sectors_of d) t s.within (root_at d) s.tree l x named, root_unnamed (sectors_of d) t s.within (root_at d) s.tree l x named)
+          (named, named_there d w t s l x named, root_unnamed d w t s l x named)
 
       -- a name is in one slot at most
       pub name_once : (j k : ℕ) (n : List ℕ) (x y : ℕ) → 2 ≤ j → 2 ≤ k → get_or ss j empty ≡ entry n x → get_or ss k empty ≡ entry n y → j ≡ k

@@ -37,7 +37,7 @@ named_some l (entry n x ∷ ss) pos = elim (hit_is l x) [
 ]
 
 named_has : (l : ℕ) (ss : List Slot) (i : ℕ) (n : List ℕ) → get_or ss i empty ≡ entry n l → 0 < times l (named_by ss)
-named_has l [] i n is = absurd (let z : ◌≡◌ {A = ℕ} 0 1 = cc in omega arith)
+named_has l [] i n is = absurd (cc)
 named_has l (s ∷ ss) zero n is = omega (arith, named_cons l s ss, ap (points l) is, hit_self l)
 named_has l (s ∷ ss) (suc i) n is = omega (arith, named_cons l s ss, named_has l ss i n is)
 

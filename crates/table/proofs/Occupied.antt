@@ -1,6 +1,6 @@
 -- Sectors that are taken in a map, as 1 or 0.
 use Rattle.std.proofs.Common.{◌≡◌, ℕ, ◌+◌, ◌/◌, ◌%◌, ◌<◌, ◌≤◌, Bool, true, false, ◌⊎◌, List, sym, ap, ◌∙◌, inl, inr, arith}
-use Rattle.std.proofs.lemmas.Bool.{cases_lt, cases_Bool, lt-ltb, le-ltb}
+use Rattle.std.proofs.lemmas.Bool.{cases_lt, cases_Bool, both_ways, lt-ltb, le-ltb}
 use Rattle.devices.specs.Meaning.{Meaning}
 use Rattle.layout.specs.Identification.{total}
 use Rattle.layout.specs.Map.{taken, bit_of}
@@ -28,12 +28,12 @@ module _ (takes : ℕ → Bool) (T k : ℕ) where
   pub taken_one : k < T → takes k ≡ true → taken_in takes T k ≡ 1
   taken_one lt is = elim taken_is [
     | inl h ↦ h.2
-    | inr h ↦ absurd (let z : takes k ≡ false = h.0 lt in let w : ◌≡◌ {A = ℕ} 0 1 = cc in omega arith)
+    | inr h ↦ absurd (both_ways (takes k) (h.0 lt) is)
   ]
 
   pub taken_none : takes k ≡ false → taken_in takes T k ≡ 0
   taken_none is = elim taken_is [
-    | inl h ↦ absurd (let z : takes k ≡ true = h.1 in let w : ◌≡◌ {A = ℕ} 0 1 = cc in omega arith)
+    | inl h ↦ absurd (both_ways (takes k) is h.1)
     | inr h ↦ h.1
   ]
 

@@ -8,7 +8,7 @@ use Rattle.layout.specs.Descriptor.{content}
 use Rattle.layout.specs.Directory.{Slot, empty, entry, slot, slots}
 use Rattle.layout.specs.Records.{record_at}
 use Rattle.rules.specs.Nodes.{times, is_directory, named_by, children, at_root, by_slot, holds}
-use Rattle.rules.specs.Rules.{sectors_of, root_at, Found}
+use Rattle.rules.specs.Rules.{root_at, Found}
 use Rattle.rules.proofs.Reaching.{from_naming}
 use Rattle.table.specs.Entries.{file, directory, Table, read_entry, at, present, held, named_in, names, up_slot, up_of}
 use Rattle.table.specs.Standing.{Stands}
@@ -48,7 +48,7 @@ slot_within xs k n l is = elim (cases_lt k (length xs / 32)) [
 ]
   where
     past : get_or (slots xs) k empty ≡ empty → ⊥
-    past e = let z : ◌≡◌ {A = ℕ} 0 1 = cc in omega arith
+    past e = cc
 
 module _ (d : Meaning) (w : ℕ → ℕ) (t : Table) (s : Stands d w t) where
   -- an entry is what its descriptor shows
@@ -68,6 +68,6 @@ module _ (d : Meaning) (w : ℕ → ℕ) (t : Table) (s : Stands d w t) where
       (reach_more (root_at d) (λ p. names (t p)) (children d.sector) (λ p i pos. subst (λ (xs : List ℕ). 0 < times i xs) (names_are p (names_some i (t p) pos)) pos) l (s.tree.reached l is))
 
   pub found_there : (l : ℕ) → Found d l → 0 < present (t l)
-  found_there _ at_root = root_there (sectors_of d) t s.within (root_at d) s.tree
+  found_there _ at_root = root_there d w t s
   found_there _ (by_slot p l r pos) =
-      named_there (sectors_of d) t s.within (root_at d) s.tree p l (subst (λ (xs : List ℕ). 0 < times l xs) (sym (names_are p (found_there p r))) pos)
+      named_there d w t s p l (subst (λ (xs : List ℕ). 0 < times l xs) (sym (names_are p (found_there p r))) pos)

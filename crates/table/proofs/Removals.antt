@@ -4,7 +4,7 @@ use Rattle.std.proofs.lemmas.Bool.{cases_eq}
 use Rattle.devices.specs.Meaning.{Meaning}
 use Rattle.layout.specs.Directory.{Slot}
 use Rattle.rules.specs.Nodes.{times, ReachedBy}
-use Rattle.rules.specs.Rules.{sectors_of, root_at}
+use Rattle.rules.specs.Rules.{root_at}
 use Rattle.rules.proofs.Times.{hit_self, times-++}
 use Rattle.table.specs.Entries.{Entry, Table, present, held, names, up_of, Upward}
 use Rattle.table.specs.Laws.{RemoveKeeps}
@@ -34,7 +34,7 @@ module _ (d d' : Meaning) (w : ℕ → ℕ) (t t' : Table) (p : ℕ) (e e' : Ent
   held_old k = ap (λ o. times k (held x o)) c.old
 
   root_not : root_at d ≡ x → ⊥
-  root_not q = root_unnamed (sectors_of d) t s.within (root_at d) s.tree p x (omega (arith, leaf_one leaf_of x, hit_self x)) (sym q)
+  root_not q = root_unnamed d w t s p x (omega (arith, leaf_one leaf_of x, hit_self x)) (sym q)
 
   remove_up : (q l : ℕ) → 0 < times l (names (t' q)) → Upward (up_of (t' l)) q
   remove_up q l pos = elim (cases_eq l x) [
@@ -51,8 +51,8 @@ module _ (d d' : Meaning) (w : ℕ → ℕ) (t t' : Table) (p : ℕ) (e e' : Ent
   remove_stands : Stands d' w t'
   remove_stands =
       update_stands d d' w t t' s p x ne
-      (below (sectors_of d) t s.within p (omega (arith, ap present c.was)))
-      (below (sectors_of d) t s.within x (omega (arith, ap present c.old)))
+      (below d w t s p (omega (arith, ap present c.was)))
+      (below d w t s x (omega (arith, ap present c.old)))
       c.others (held p (Some e) ++ held p (Some e') ++ held x (Some f)) c.kept
       (λ k a b a' b'. omega (arith, times-++ k (held p (Some e)) (held p (Some e')), times-++ k (held p (Some e) ++ held p (Some e')) (held x (Some f)), held_as k, held_as' k, held_old k))
       (λ k. omega (arith, c.bits k, held_as k, held_as' k, held_old k, ap (λ o. times k (held x o)) c.gone))

@@ -8,7 +8,7 @@ use Rattle.table.specs.Entries.{Entry, Table, held}
 use Rattle.table.specs.Laws.{SameKeeps}
 use Rattle.table.specs.Standing.{Shows, Stands}
 use Rattle.table.proofs.Frames.{frame}
-use Rattle.table.proofs.Occupied.{occupied_small, occupied_same, occupied_below}
+use Rattle.table.proofs.Occupied.{occupied_same, occupied_below}
 use Rattle.table.proofs.Spaces.{below, held_taken, held_self, root_there}
 use Rattle.table.proofs.Updating.{update_stands}
 
@@ -19,9 +19,9 @@ module _ (d d' : Meaning) (w : ℕ → ℕ) (t : Table) (s : Stands d w t) (same
   -- the root is one place of the table, and LSN 0 another
   root_low : (map_of d < root_at d) × (root_at d < sectors_of d)
   root_low =
-      let there = root_there (sectors_of d) t s.within (root_at d) s.tree in
-      let h = held_taken (sectors_of d) t s.within (map_of d) w (occupied d) (occupied_small d) s.space (root_at d) (root_at d) (held_self (root_at d) (t (root_at d)) there) in
-      (h.1, below (sectors_of d) t s.within (root_at d) there)
+      let there = root_there d w t s in
+      let h = held_taken d w t s (root_at d) (root_at d) (held_self (root_at d) (t (root_at d)) there) in
+      (h.1, below d w t s (root_at d) there)
 
   shown_same : (l : ℕ) (e : Entry) → t l ≡ Some e → Shows d' l e
   shown_same l e is =
@@ -29,7 +29,7 @@ module _ (d d' : Meaning) (w : ℕ → ℕ) (t : Table) (s : Stands d w t) (same
     where
       held_low : (l k : ℕ) (e : Entry) → t l ≡ Some e → 0 < times k (held l (Some e)) → k < sectors_of d
       held_low l k e is pos =
-          occupied_below d k (omega (arith, (held_taken (sectors_of d) t s.within (map_of d) w (occupied d) (occupied_small d) s.space l k (omega (arith, pos, ap (λ o. times k (held l o)) is))).0))
+          occupied_below d k (omega (arith, (held_taken d w t s l k (omega (arith, pos, ap (λ o. times k (held l o)) is))).0))
 
   same_stands : Stands d' w t
   same_stands =

@@ -29,7 +29,7 @@ slot_says r n l is =
     (used, first e, second e)
   where
     never : empty ≡ entry n l → ⊥
-    never e = let z : ◌≡◌ {A = ℕ} 0 1 = cc in omega arith
+    never e = cc
 
     first : {a b : List ℕ} {x y : ℕ} → entry a x ≡ entry b y → a ≡ b
     first e = cc

@@ -13,16 +13,14 @@ use Rattle.layout.proofs.Rows.{record_below}
 use Rattle.descriptors.proofs.Blocks.{Wide, slot_block}
 use Rattle.rules.specs.Nodes.{times}
 use Rattle.rules.proofs.Members.{nth-times}
-use Rattle.rules.proofs.Times.{hit_is}
+use Rattle.rules.proofs.Times.{hit_self}
 
 -- a number that stands in a list once has one place
 pub nth_once : (xs : List ℕ) (a b x : ℕ) → slice_get xs a ≡ Some x → slice_get xs b ≡ Some x → times x xs ≤ 1 → a ≡ b
-nth_once [] a b x p q few = absurd (let z : ◌≡◌ {A = ℕ} 0 1 = cc in omega arith)
+nth_once [] a b x p q few = cc
 nth_once (y ∷ xs) zero zero x p q few = refl
-nth_once (y ∷ xs) zero (suc b) x p q few =
-    let same : x ≡ y = cc in elim (hit_is x y) [ inl h ↦ absurd (omega (arith, few, h.1, nth-times xs b x q)) | inr h ↦ absurd (h.0 same) ]
-nth_once (y ∷ xs) (suc a) zero x p q few =
-    let same : x ≡ y = cc in elim (hit_is x y) [ inl h ↦ absurd (omega (arith, few, h.1, nth-times xs a x p)) | inr h ↦ absurd (h.0 same) ]
+nth_once (y ∷ xs) zero (suc b) x p q few = let same : y ≡ x = cc in absurd (omega (arith, rw same at few, hit_self x, nth-times xs b x q))
+nth_once (y ∷ xs) (suc a) zero x p q few = let same : y ≡ x = cc in absurd (omega (arith, rw same at few, hit_self x, nth-times xs a x p))
 nth_once (y ∷ xs) (suc a) (suc b) x p q few = ap suc (nth_once xs a b x p q (omega arith))
 
 -- a record behind the bytes that were laid over others

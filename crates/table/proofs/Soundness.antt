@@ -1,12 +1,12 @@
 -- Where a table stands, every rule of a sound volume holds.
-use Rattle.std.proofs.Common.{◌≡◌, ℕ, ◌<◌, Bool, true, false, get_or, Some, None, codes, Option, sym, refl, ap, ◌∙◌, subst, inl, inr, arith}
-use Rattle.std.proofs.lemmas.Bool.{cases_Bool}
+use Rattle.std.proofs.Common.{◌≡◌, ℕ, ◌<◌, true, get_or, Some, None, codes, Option, sym, refl, ap, ◌∙◌, subst, inl, inr, arith}
+use Rattle.std.proofs.lemmas.Bool.{cases_Bool, both_ways}
 use Rattle.devices.specs.Meaning.{Meaning}
 use Rattle.layout.specs.Descriptor.{content}
 use Rattle.layout.specs.Directory.{Slot, empty, entry, slot, slots}
 use Rattle.layout.specs.Map.{taken}
 use Rattle.rules.specs.Nodes.{times, is_directory, children, at_root, holds, Parent, of_root, of_child}
-use Rattle.rules.specs.Rules.{sectors_of, map_of, root_at, Found, Inside, SlotsRight, slot_bytes_at, Again, root_too, same_directory, two_directories, Twice, inside, shared, again, Owned, Wanted, Sound}
+use Rattle.rules.specs.Rules.{map_of, root_at, Found, Inside, SlotsRight, slot_bytes_at, Again, root_too, same_directory, two_directories, Twice, inside, shared, again, Owned, Wanted, Sound}
 use Rattle.rules.proofs.Walks.{system_is}
 use Rattle.table.specs.Counts.{occupied}
 use Rattle.table.specs.Entries.{Table, at, present, held, names, up_of, dots, Upward}
@@ -28,7 +28,7 @@ module _ (d : Meaning) (w : ℕ → ℕ) (t : Table) (s : Stands d w t) where
   names_so p l r = ap (times l) (names_are d w t s p (there p r))
 
   taken_so : (l k : ℕ) → Found d l → 0 < times k (holds d.sector l) → (occupied d k ≡ 1) × (map_of d < k) × (w k ≡ 0)
-  taken_so l k r pos = held_taken (sectors_of d) t s.within (map_of d) w (occupied d) (occupied_small d) s.space l k (omega (arith, pos, held_so l k r))
+  taken_so l k r pos = held_taken d w t s l k (omega (arith, pos, held_so l k r))
 
   inside_so : (l k : ℕ) → Found d l → 0 < times k (holds d.sector l) → Inside d k
   inside_so l k r pos = let h = taken_so l k r pos in (h.1, occupied_below d k (omega (arith, h.0)))
@@ -52,11 +52,11 @@ module _ (d : Meaning) (w : ℕ → ℕ) (t : Table) (s : Stands d w t) where
   directory_root : is_directory (d.sector (root_at d)) ≡ true
   directory_root = elim (cases_Bool (is_directory (d.sector (root_at d)))) [
     | inl is ↦ is
-    | inr not ↦ absurd (never (sym s.tree.top ∙ ap up_of (entry_read d w t s (root_at d) (root_there (sectors_of d) t s.within (root_at d) s.tree)) ∙ up_file d (root_at d) not))
+    | inr not ↦ absurd (never (sym s.tree.top ∙ ap up_of (entry_read d w t s (root_at d) (root_there d w t s)) ∙ up_file d (root_at d) not))
   ]
     where
       never : Some (dots (root_at d)) ≡ None → ⊥
-      never e = let z : ◌≡◌ {A = ℕ} 0 1 = cc in omega arith
+      never e = cc
 
   slots_right : (l p : ℕ) → Found d l → is_directory (d.sector l) ≡ true → Parent d.sector (root_at d) p l → SlotsRight d l p
   slots_right l p r dir of =
@@ -65,18 +65,18 @@ module _ (d : Meaning) (w : ℕ → ℕ) (t : Table) (s : Stands d w t) where
 
   -- nothing is named twice
   not_again : (l : ℕ) → Again d l → ⊥
-  not_again l (root_too p r e pos) = root_unnamed (sectors_of d) t s.within (root_at d) s.tree p l (omega (arith, pos, names_so p l r)) e
+  not_again l (root_too p r e pos) = root_unnamed d w t s p l (omega (arith, pos, names_so p l r)) e
   not_again l (same_directory p r two) =
-      omega (arith, two, names_so p l r, naming_one (sectors_of d) t s.within l p, s.tree.named l, present_small (t l))
+      omega (arith, two, names_so p l r, naming_one d w t s l p, s.tree.named l, present_small (t l))
   not_again l (two_directories p q ne r r' pos pos') =
-      omega (arith, pos, pos', names_so p l r, names_so q l r', naming_two (sectors_of d) t s.within l p q ne, s.tree.named l, present_small (t l))
+      omega (arith, pos, pos', names_so p l r, names_so q l r', naming_two d w t s l p q ne, s.tree.named l, present_small (t l))
 
   -- nothing is held twice
   not_twice : (k : ℕ) → Twice d k → ⊥
   not_twice k (inside l r two) =
-      omega (arith, two, held_so l k r, held_once (sectors_of d) t s.within (map_of d) w (occupied d) (occupied_small d) s.space l k)
+      omega (arith, two, held_so l k r, held_once d w t s l k)
   not_twice k (shared l l' ne r r' pos pos') =
-      omega (arith, pos', held_so l' k r', held_apart (sectors_of d) t s.within (map_of d) w (occupied d) (occupied_small d) s.space l l' k ne (omega (arith, pos, held_so l k r)))
+      omega (arith, pos', held_so l' k r', held_apart d w t s l l' k ne (omega (arith, pos, held_so l k r)))
   not_twice k (again l r a pos) = not_again l a
 
   -- owned sectors are taken, and not withheld
@@ -93,12 +93,9 @@ module _ (d : Meaning) (w : ℕ → ℕ) (t : Table) (s : Stands d w t) where
   free : (k : ℕ) → Wanted d k → w k ≡ 0
   free k (lt, inl o) = (owned_taken k o).1
   free k (lt, inr clear) = elim (occupied_is d k) [
-    | inl h ↦ absurd (never (taken d.sector k) h.1 clear)
+    | inl h ↦ absurd (both_ways (taken d.sector k) clear h.1)
     | inr h ↦ omega (arith, h.1, s.space k)
   ]
-    where
-      never : (b : Bool) → b ≡ true → b ≡ false → ⊥
-      never b p q = let z : ◌≡◌ {A = ℕ} 0 1 = cc in omega arith
 
   rules_hold : Sound d
   rules_hold =
@@ -109,7 +106,7 @@ module _ (d : Meaning) (w : ℕ → ℕ) (t : Table) (s : Stands d w t) where
             record {
               segments_inside = λ k pos. inside_so l k r (omega (arith, pos));
               children_inside = λ k pos.
-                  own_inside k (there_found d w t s k (named_there (sectors_of d) t s.within (root_at d) s.tree l k (omega (arith, pos, names_so l k r))));
+                  own_inside k (there_found d w t s k (named_there d w t s l k (omega (arith, pos, names_so l k r))));
             };
         rule_c = λ l r. (lawful l r).tidy;
         rule_d = λ l r. (lawful l r).sized;

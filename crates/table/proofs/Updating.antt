@@ -13,7 +13,7 @@ use Rattle.table.specs.Standing.{Shows, Space, Tree, Stands}
 use Rattle.table.specs.Updates.{Beside}
 use Rattle.table.proofs.Frames.{frame}
 use Rattle.table.proofs.Occupied.{occupied_small, occupied_below}
-use Rattle.table.proofs.Spaces.{held_taken, held_apart}
+use Rattle.table.proofs.Spaces.{claim_two, held_taken, held_apart}
 use Rattle.table.proofs.Sums.{sum_two}
 
 module _ (d d' : Meaning) (w : ℕ → ℕ) (t t' : Table) (s : Stands d w t) (p x : ℕ) (ne : p ≡ x → ⊥) (low_p : p < sectors_of d) (low_x : x < sectors_of d)
@@ -34,14 +34,16 @@ module _ (d d' : Meaning) (w : ℕ → ℕ) (t t' : Table) (s : Stands d w t) (p
       let two = sum_two (λ l. times k (held l (t l))) (λ l. times k (held l (t' l))) (sectors_of d) p x low_p low_x ne (λ l lt np nx. ap (λ o. times k (held l o)) (others l np nx)) in
       omega (arith, two, s.space k, bits k)
 
+  apart' : (l y k : ℕ) → (l ≡ y → ⊥) → 0 < times k (held l (t' l)) → times k (held y (t' y)) ≡ 0
+  apart' l y k ny pos = omega (arith, claim_two (sectors_of d) t' within' k l y ny, space' k, occupied_small d' k)
+
   -- a sector that another entry holds has not changed
   same_sector : (l k : ℕ) → (l ≡ p → ⊥) → (l ≡ x → ⊥) → 0 < times k (held l (t l)) → d'.sector k ≡ d.sector k
   same_sector l k np nx pos =
       let pos' : 0 < times k (held l (t' l)) = omega (arith, ap (λ o. times k (held l o)) (others l np nx)) in
-      let old = held_taken (sectors_of d) t s.within (map_of d) w (occupied d) (occupied_small d) s.space l k pos in
-      let apart = held_apart (sectors_of d) t s.within (map_of d) w (occupied d) (occupied_small d) s.space l in
-      let apart' = held_apart (sectors_of d) t' within' (map_of d) w (occupied d') (occupied_small d') space' l in
-      let free = touched k (apart p k np pos) (apart x k nx pos) (apart' p k np pos') (apart' x k nx pos') in
+      let old = held_taken d w t s l k pos in
+      let apart = held_apart d w t s l in
+      let free = touched k (apart p k np pos) (apart x k nx pos) (apart' l p k np pos') (apart' l x k nx pos') in
       kept.2 k (omega (arith, occupied_below d k (omega (arith, old.0)), s.rule_a.fits)) (inr (old.1, free))
 
   shown' : (l : ℕ) (e : Entry) → t' l ≡ Some e → Shows d' l e

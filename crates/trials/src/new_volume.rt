@@ -15,7 +15,7 @@ pub fn map_sectors(total: usize) -> usize
     requires { total ≤ 65536 }
     ensures { (total ≤ result * 2048) × (result * 2048 < total + 2048) }
 {
-    total / 2048 + usize::from(total % 2048 > 0)
+    total.div_ceil(2048)
 }
 
 impl NewVolume<'_> {
@@ -41,7 +41,7 @@ impl NewVolume<'_> {
         let root = map_sectors(self.total) + 1;
         match at {
             0..=2 => self.total.to_be_bytes()[at + 5],
-            4..=5 => ((self.total + 7) / 8).to_be_bytes()[at + 2],
+            4..=5 => self.total.div_ceil(8).to_be_bytes()[at + 2],
             7 => 1,
             8..=10 => root.to_be_bytes()[at - 3],
             13 => 0xBF,
@@ -51,13 +51,10 @@ impl NewVolume<'_> {
     }
 
     fn named(&self, place: usize) -> u8 {
-        let Some(byte) = self.name.get(place) else {
-            return 0;
-        };
-        if place == self.name.len() - 1 {
-            *byte | 0x80
-        } else {
-            *byte
+        match self.name.get(place..) {
+            Some([last]) => *last | 0x80,
+            Some([byte, ..]) => *byte,
+            _ => 0,
         }
     }
 
@@ -65,13 +62,9 @@ impl NewVolume<'_> {
     fn map(&self, first: usize) -> u8
         requires { first < 100000 }
     {
-        let mut byte = 0;
-        for k in 0..8 {
-            if self.is_taken(first + k) {
-                byte |= 0x80u8 >> k;
-            }
-        }
-        byte
+        (0..8)
+            .filter(|k| self.is_taken(first + *k))
+            .fold(0, |byte, k| byte | (0x80u8 >> k))
     }
 
     fn is_taken(&self, lsn: usize) -> bool {
@@ -107,8 +100,8 @@ impl NewVolume<'_> {
         if before.len() != after.len() {
             return Some(before.len().min(after.len()));
         }
-        for offset in 0..before.len() {
-            if after[offset] != self.byte(offset).unwrap_or(before[offset]) {
+        for (offset, (old, new)) in before.iter().zip(after).enumerate() {
+            if *new != self.byte(offset).unwrap_or(*old) {
                 return Some(offset);
             }
         }

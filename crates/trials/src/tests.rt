@@ -1,5 +1,6 @@
 use devices::device::{Cause, Device, DeviceFault};
 use std::alloc::Global;
+use std::fmt::Display;
 use std::process::Abort;
 use std::test::Fail;
 
@@ -10,6 +11,16 @@ mod inspections;
 mod surveys;
 mod trays;
 mod windows;
+
+// One of several cases passes. If it does not, the case is told.
+fn passes(
+    rt: &impl Abort,
+    checked: Result<(), Fail>,
+    case: impl Display + Drop,
+) -> Result<(), Fail> {
+    assert!(rt; checked.is_ok(), "{case}");
+    checked
+}
 
 // A read and a write with a buffer of so many bytes are both refused, and the buffer stays as it was.
 fn refused<D: Device>(

@@ -1,8 +1,7 @@
 -- The sectors of a new volume, laid one after another.
 use Rattle.std.proofs.Common.{◌≡◌, ℕ, ◌+◌, ◌*◌, ◌<◌, ◌≤◌, Bool, true, false, ◌||◌, leb, List, [], ◌∷◌, map, refl, ◌∙◌, ap₂, inl, inr, arith}
 use Rattle.std.specs.List.{range_with_len}
-use Rattle.std.proofs.lemmas.Bool.{cases_eq}
-use Rattle.std.proofs.lemmas.Bool.Decides.{nat_tests}
+use Rattle.std.proofs.lemmas.Bool.{cases_eq, leb-false}
 use Rattle.devices.specs.Meaning.{Meaning, Kept}
 use Rattle.layout.proofs.Bits.{packed_same}
 use Rattle.layout.specs.Map.{map_sector}
@@ -23,12 +22,9 @@ or_same true b x y h = refl
 or_same false true x y h = refl
 or_same false false x y h = h refl
 
-below : (T k : ℕ) → leb T k ≡ false → k < T
-below T k h = grind (arith, nat_tests)
-
 -- what the map has as taken is the same while the bad sectors stay
 pub taken_kept : (P : ℕ → Type 0) (m m' : Meaning) (T : ℕ) → Kept P m m' → T ≤ m.count → (k : ℕ) → taken_first m' T k ≡ taken_first m T k
-taken_kept P m m' T x fits k = or_same (leb k (slots_of T)) (leb T k) (m'.bad k) (m.bad k) (λ e. x.1 k (omega (arith, below T k e)))
+taken_kept P m m' T x fits k = or_same (leb k (slots_of T)) (leb T k) (m'.bad k) (m.bad k) (λ e. x.1 k (omega (arith, leb-false T k e)))
 
 -- one map sector more
 pub map_more : (m m₁ m₂ : Meaning) (T n : ℕ) (s : List ℕ) → T ≤ m.count → 1 + n < m.count → MapLaid m m₁ T n → Kept (λ k. k ≡ 1 + n → ⊥) m₁ m₂ → m₂.sector (1 + n) ≡ s → s ≡ map_sector (taken_first m₁ T) n → MapLaid m m₂ T (n + 1)

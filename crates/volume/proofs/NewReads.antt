@@ -1,10 +1,10 @@
 -- What format leaves, read by the layout.
-use Rattle.std.proofs.Common.{◌≡◌, ℕ, ◌+◌, ◌*◌, ◌/◌, ◌<◌, ◌≤◌, true, List, [], ◌∷◌, map, length, get_or, take, replicate, codes, sym, refl, ap, ◌∙◌, ap₂, inl, inr, arith}
+use Rattle.std.proofs.Common.{◌≡◌, ℕ, ◌+◌, ◌*◌, ◌/◌, ◌^◌, ◌<◌, ◌≤◌, true, List, [], ◌∷◌, map, length, get_or, take, replicate, codes, sym, refl, ap, ◌∙◌, ap₂, arith, rules}
 use Rattle.std.specs.List.{flat_map, range_with_len}
 use Rattle.std.proofs.lemmas.List.{append-nil, length-replicate, length-take-le}
 use Rattle.std.proofs.lemmas.Bool.Decides.{nat_tests}
 use Rattle.devices.specs.Meaning.{Meaning}
-use Rattle.layout.specs.Bytes.{Field, number, bytes, over, laid_over}
+use Rattle.layout.specs.Bytes.{Field, number, bytes, over, laid_over, laid}
 use Rattle.layout.specs.Descriptor.{segment, upto, extent, content, segment_bytes}
 use Rattle.layout.specs.Directory.{entry, slot, slots, slot_name, slot_bytes}
 use Rattle.layout.specs.Map.{map_bytes_of, map_sectors}
@@ -13,7 +13,7 @@ use Rattle.layout.specs.Records.{record_at}
 use Rattle.layout.specs.declared.segment.Segment.{Segment}
 use Rattle.layout.proofs.Bits.{map-taken}
 use Rattle.layout.specs.Digits.{length-bytes}
-use Rattle.layout.proofs.Lays.{Inside, Apart, length-laid, number_apart, number_held, number_zeros}
+use Rattle.layout.proofs.Lays.{Inside, Apart, Holds, length-laid, number_apart, number_held, number_zeros}
 use Rattle.layout.proofs.Marks.{length_marked, name_of_marked}
 use Rattle.layout.specs.Overs.{length_over, over_over, part_over}
 use Rattle.layout.proofs.Rows.{record_here, record_take, record_below}
@@ -32,6 +32,14 @@ none_long = length-replicate {A = ℕ} 256 0
 
 plain : (b : ℕ) → name_byte b ≡ true → b < 128
 plain b h = grind (arith, nat_tests)
+
+-- a field of a sector is read back
+held : (at w v : ℕ) (fs : List Field) → v < 256 ^ w → Inside 256 fs → Holds at w v fs → number at w (laid fs) ≡ v
+held at w v fs small within = number_held at w v small none fs 256 none_long within
+
+-- and where no field lies there are zeros
+blank : (at w : ℕ) (fs : List Field) → Inside 256 fs → Apart at w fs → number at w (laid fs) ≡ 0
+blank at w fs within apart = number_apart at w none fs 256 none_long within apart ∙ number_zeros at w 256
 
 -- the identification sector
 module _ (T : ℕ) (name : List ℕ) (few : T ≤ 65536) (named : VolumeName name) where
@@ -56,55 +64,28 @@ module _ (T : ℕ) (name : List ℕ) (few : T ≤ 65536) (named : VolumeName nam
       ∷ []
 
   within : Inside 256 fields
-  within = (
-    omega (arith, length-bytes 3 T),
-    (
-      omega (arith, length-bytes 2 (map_bytes_of T)),
-      (
-        omega (arith, length-bytes 2 1),
-        (
-          omega (arith, length-bytes 3 (root_of T)),
-          (omega arith, (omega (arith, length_marked name, named.1), tt)),
-        ),
-      ),
-    ),
-  )
+  within = search (rules, length-bytes, length_marked, named.1)
 
   short : Inside 256 numbers
-  short = (
-    within.0,
-    (within.1.0, (within.1.1.0, (within.1.1.1.0, (within.1.1.1.1.0, tt)))),
-  )
+  short = search (rules, length-bytes)
 
   -- what lies behind the fields from the name on
   behind : (at w : ℕ) → 63 ≤ at → Apart at w fields
-  behind at w le = (
-    inr (omega (arith, length-bytes 3 T)),
-    (
-      inr (omega (arith, length-bytes 2 (map_bytes_of T))),
-      (
-        inr (omega (arith, length-bytes 2 1)),
-        (
-          inr (omega (arith, length-bytes 3 (root_of T))),
-          (inr (omega arith), (inr (omega (arith, length_marked name, named.1)), tt)),
-        ),
-      ),
-    ),
-  )
+  behind at w le = search (rules, length-bytes, length_marked, named.1)
 
   pub identification_reads : IdentificationReads (new_identification T name) T name
   unfolding bytes
   identification_reads =
       record {
-        total_is = number_held 0 3 T (omega arith) none fields 256 none_long within (inl (refl, refl, (inl (omega arith), (inl (omega arith), (inl (omega arith), (inl (omega arith), (inl (omega arith), tt)))))));
-        map_bytes_are = number_held 4 2 (map_bytes_of T) (omega arith) none fields 256 none_long within (inr (inl (refl, refl, (inl (omega arith), (inl (omega arith), (inl (omega arith), (inl (omega arith), tt)))))));
-        one_sector_clusters = number_held 6 2 1 (omega arith) none fields 256 none_long within (inr (inr (inl (refl, refl, (inl (omega arith), (inl (omega arith), (inl (omega arith), tt)))))));
-        root_is = number_held 8 3 (root_of T) (omega arith) none fields 256 none_long within (inr (inr (inr (inl (refl, refl, (inl (omega arith), (inl (omega arith), tt)))))));
-        attribute_is = number_held 13 1 191 (omega arith) none fields 256 none_long within (inr (inr (inr (inr (inl (refl, refl, (inl (omega arith), tt)))))));
+        total_is = held 0 3 T fields (omega arith) within (search rules);
+        map_bytes_are = held 4 2 (map_bytes_of T) fields (omega arith) within (search rules);
+        one_sector_clusters = held 6 2 1 fields (omega arith) within (search rules);
+        root_is = held 8 3 (root_of T) fields (omega arith) within (search rules);
+        attribute_is = held 13 1 191 fields (omega arith) within (search rules);
         name_is =
             ap name_of (part_over 31 32 (marked name) (laid_over none numbers) (omega (arith, length-laid none numbers 256 none_long short)) (omega (arith, length_marked name, named.1)))
             ∙ name_of_marked name _ (omega (arith, named.0)) (λ k lt. plain (get_or name k 0) (named.2 k lt));
-        usual_sectors = number_apart 104 2 none fields 256 none_long within (behind 104 2 (omega arith)) ∙ number_zeros 104 2 256;
+        usual_sectors = blank 104 2 fields within (behind 104 2 (omega arith));
       }
 
 -- the root's descriptor and slots
@@ -134,11 +115,10 @@ module _ (T : ℕ) (few : T ≤ 65536) where
       ∷ []
 
   root_within : Inside 256 root_numbers
-  root_within =
-      (omega arith, (omega arith, (omega (arith, length-bytes 4 64), (omega (arith, length-bytes 3 (slots_of T)), (omega (arith, length-bytes 2 1), tt)))))
+  root_within = search (rules, length-bytes)
 
   start_within : Inside 256 start_fields
-  start_within = (omega arith, (omega arith, (omega (arith, length-bytes 4 64), tt)))
+  start_within = search (rules, length-bytes)
 
   -- two pieces laid one behind the other are one
   root_same : laid_over none root_fields ≡ laid_over none root_numbers
@@ -152,19 +132,16 @@ module _ (T : ℕ) (few : T ≤ 65536) where
   root_reads =
       rw root_same
       (record {
-        attribute_is = number_held 0 1 191 (omega arith) none root_numbers 256 none_long root_within (inl (refl, refl, (inl (omega arith), (inl (omega arith), (inl (omega arith), (inl (omega arith), tt))))));
-        owner_is =
-            number_apart 1 2 none root_numbers 256 none_long root_within (inr (omega arith), (inl (omega arith), (inl (omega arith), (inl (omega arith), (inl (omega arith), tt)))))
-            ∙ number_zeros 1 2 256;
-        one_link = number_held 8 1 1 (omega arith) none root_numbers 256 none_long root_within (inr (inl (refl, refl, (inl (omega arith), (inl (omega arith), (inl (omega arith), tt))))));
-        size_is = number_held 9 4 64 (omega arith) none root_numbers 256 none_long root_within (inr (inr (inl (refl, refl, (inl (omega arith), (inl (omega arith), tt))))));
+        attribute_is = held 0 1 191 root_numbers (omega arith) root_within (search rules);
+        owner_is = blank 1 2 root_numbers root_within (search (rules, length-bytes));
+        one_link = held 8 1 1 root_numbers (omega arith) root_within (search rules);
+        size_is = held 9 4 64 root_numbers (omega arith) root_within (search rules);
         one_segment =
             one_segment _ (slots_of T) 1
-            (number_held 16 3 (slots_of T) (omega arith) none root_numbers 256 none_long root_within (inr (inr (inr (inl (refl, refl, (inl (omega arith), tt)))))))
-            (number_held 19 2 1 (omega arith) none root_numbers 256 none_long root_within (inr (inr (inr (inr (inl (refl, refl, tt)))))))
+            (held 16 3 (slots_of T) root_numbers (omega arith) root_within (search rules))
+            (held 19 2 1 root_numbers (omega arith) root_within (search rules))
             (λ e. omega arith)
-            (number_apart 24 2 none root_numbers 256 none_long root_within (inr (omega arith), (inr (omega arith), (inr (omega (arith, length-bytes 4 64)), (inr (omega (arith, length-bytes 3 (slots_of T))), (inr (omega (arith, length-bytes 2 1)), tt)))))
-            ∙ number_zeros 24 2 256);
+            (blank 24 2 root_numbers root_within (search (rules, length-bytes)));
       })
 
   -- the two slots
@@ -233,19 +210,18 @@ module _ (T : ℕ) (few : T ≤ 65536) where
 
   -- the entries behind the first are zero
   behind_first : (at w : ℕ) → 21 ≤ at → Apart at w root_numbers
-  behind_first at w le =
-      (inr (omega arith), (inr (omega arith), (inr (omega (arith, length-bytes 4 64)), (inr (omega (arith, length-bytes 3 (slots_of T))), (inr (omega (arith, length-bytes 2 1)), tt)))))
+  behind_first at w le = search (rules, length-bytes)
 
   pub first_len : (segment (new_root T) 0).len ≡ 1
   first_len =
       ap (λ (g : Segment). g.len) (segment_numbers (new_root T) 0)
       ∙ ap (number 19 2) root_same
-      ∙ number_held 19 2 1 (omega arith) none root_numbers 256 none_long root_within (inr (inr (inr (inr (inl (refl, refl, tt))))))
+      ∙ held 19 2 1 root_numbers (omega arith) root_within (search rules)
 
   pub rest_zero : (k : ℕ) → 1 ≤ k → segment (new_root T) k ≡ record { start = 0; len = 0 }
   rest_zero k le =
       let make : ℕ → ℕ → Segment = λ x y. record { start = x; len = y } in
-      let zero-at : (at w : ℕ) → 21 ≤ at → number at w (new_root T) ≡ 0 = λ at w ge. ap (number at w) root_same ∙ number_apart at w none root_numbers 256 none_long root_within (behind_first at w ge) ∙ number_zeros at w 256 in
+      let zero-at : (at w : ℕ) → 21 ≤ at → number at w (new_root T) ≡ 0 = λ at w ge. ap (number at w) root_same ∙ blank at w root_numbers root_within (behind_first at w ge) in
       segment_numbers (new_root T) k ∙ ap₂ make (zero-at (16 + k * 5) 3 (omega arith)) (zero-at (16 + k * 5 + 3) 2 (omega arith))
 
 -- the bytes of a file of one sector

@@ -1,7 +1,6 @@
 -- What format leaves satisfies every rule.
 use Rattle.std.proofs.Common.{◌≡◌, ℕ, ◌/◌, ◌%◌, ◌<◌, ◌≤◌, Bool, true, false, cond, ◌||◌, leb, ◌⊎◌, List, [], ◌∷◌, length, take, drop, codes, sym, refl, ap, ◌∙◌, subst, inl, inr, arith}
-use Rattle.std.proofs.lemmas.Bool.{cases_eq}
-use Rattle.std.proofs.lemmas.Bool.Decides.{nat_tests}
+use Rattle.std.proofs.lemmas.Bool.{cases_eq, le-leb, or_left}
 use Rattle.devices.specs.Meaning.{Meaning}
 use Rattle.layout.specs.Descriptor.{segment, segments, upto, extent, content}
 use Rattle.layout.specs.Directory.{entry, slot}
@@ -20,16 +19,8 @@ cond_none : (b : Bool) → cond {A = List ℕ} b [] [] ≡ []
 cond_none true = refl
 cond_none false = refl
 
-front_true : (a b : Bool) → a ≡ true → (a || b) ≡ true
-front_true a b e = rw e refl
-
 last_false : (a b c : Bool) → (a || (b || c)) ≡ false → c ≡ false
-last_false true b c e = absurd (let z : ◌≡◌ {A = ℕ} 0 1 = cc in omega arith)
-last_false false true c e = absurd (let z : ◌≡◌ {A = ℕ} 0 1 = cc in omega arith)
-last_false false false c e = e
-
-leb_true : (k n : ℕ) → k ≤ n → leb k n ≡ true
-leb_true k n h = grind (arith, nat_tests)
+last_false a b c e = grind arith
 
 module _ (m m' : Meaning) (T : ℕ) (name : List ℕ) (least : 16 ≤ T) (most : T ≤ 65536) (fits : T ≤ m.count) (named : VolumeName name) (good : GoodTo m (slots_of T)) (f : Formatted m m' T name) where
   layout : NewLayout m m'.sector T name
@@ -138,7 +129,7 @@ module _ (m m' : Meaning) (T : ℕ) (name : List ℕ) (least : 16 ≤ T) (most :
       }
 
   is_set : (k : ℕ) → k ≤ slots_of T → taken m'.sector k ≡ true
-  is_set k le = layout.map k (omega arith) ∙ front_true (leb k (slots_of T)) (leb T k || m.bad k) (leb_true k (slots_of T) le)
+  is_set k le = layout.map k (omega arith) ∙ or_left (leb k (slots_of T)) (leb T k || m.bad k) (le-leb k (slots_of T) le)
 
   all_good : (k : ℕ) → Wanted m' k → m'.bad k ≡ false
   all_good k w =
@@ -171,7 +162,7 @@ module _ (m m' : Meaning) (T : ℕ) (name : List ℕ) (least : 16 ≤ T) (most :
         rule_d = of_found (RuleD m') root_d;
         rule_e = of_found (λ l. is_directory (m'.sector l) ≡ true → RuleE m' l) (λ e. root_e);
         root_directory = ap (λ l. is_directory (m'.sector l)) root_is ∙ directory;
-        rule_f = of_found (RuleF m') (λ e. absurd (let d = directory in let z : ◌≡◌ {A = ℕ} 0 1 = cc in omega arith));
+        rule_f = of_found (RuleF m') (λ e. absurd (cc (directory, e)));
         rule_g = not_twice;
         rule_h = λ k o. is_set k (owned_low k o);
         good = all_good;

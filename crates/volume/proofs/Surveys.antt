@@ -1,5 +1,5 @@
 -- A survey that ends at the root's descriptor.
-use Rattle.std.proofs.Common.{◌≡◌, ℕ, Bool, true, false, List, length, Ok, Err, Result, sym, refl, ap, ◌∙◌, subst, inl, inr, arith}
+use Rattle.std.proofs.Common.{◌≡◌, ℕ, true, List, length, Ok, Err, Result, sym, refl, ap, ◌∙◌, subst, inl, inr, arith}
 use Rattle.devices.specs.Meaning.{Meaning, Fails}
 use Rattle.devices.specs.declared.device.Cause.{Cause}
 use Rattle.devices.specs.declared.device.Cause.TheVariants.{Length, Range, Bad}
@@ -25,14 +25,11 @@ root_refused d a room marks marks' lawful rule_a (Device r) (ins, at, cause, bad
 root_refused d a room marks marks' lawful rule_a (Refused r at) none = elim none [ ]
 root_refused d a room marks marks' lawful rule_a (Broken r at) broken = (lawful, broken)
 
-never : (b : Bool) → b ≡ true → b ≡ false → ⊥
-never b p q = let z : ◌≡◌ {A = ℕ} 0 1 = cc in omega arith
-
 -- a sound volume's sectors can be read
 readable : (d : Meaning) (l : ℕ) (c : Cause) → Sound d → Wanted d l → Fails d l 256 c → ⊥
 readable d l Length s w f = f refl
 readable d l Range s w f = omega (arith, f.1, w.0, s.rule_a.fits)
-readable d l Bad s w f = never (d.bad l) f.2 (s.good l w)
+readable d l Bad s w f = cc (f.2, s.good l w)
 
 first_wanted : (d : Meaning) → Sound d → Wanted d 0
 first_wanted d s = (omega (arith, s.rule_a.least), inl (inl (omega arith)))

@@ -1,14 +1,21 @@
 -- Refusals of the volume layer: number, place and first layer.
-use Rattle.std.specs.Prelude.{ℕ, Ok, Err, Result}
+use Rattle.std.specs.Prelude.{ℕ, List, Ok, Err, Result, codes}
 use Rattle.devices.specs.declared.device.DeviceFault.{DeviceFault}
 use Rattle.volume.specs.declared.fault.Layer.{Layer}
-use Rattle.volume.specs.declared.fault.Layer.TheVariants.{Devices, Volume}
+use Rattle.volume.specs.declared.fault.Layer.TheVariants.{Devices, Volume, Files, Pathlists}
 use Rattle.volume.specs.declared.fault.Part.{Part}
 use Rattle.volume.specs.declared.fault.Reading.{Reading}
 use Rattle.volume.specs.declared.fault.VolumeFault.{VolumeFault}
 use Rattle.volume.specs.declared.fault.VolumeFault.TheVariants as fault
 use Rattle.volume.specs.declared.fault.VolumeRefusal.{VolumeRefusal}
 use Rattle.volume.specs.declared.fault.VolumeRefusal.TheVariants as refusal
+
+-- the name of a layer in a refusal's line
+abbrev pub layer_word : Layer → List ℕ
+layer_word Devices = codes "devices"
+layer_word Volume = codes "volume"
+layer_word Files = codes "files"
+layer_word Pathlists = codes "pathlists"
 
 -- a device's refusal becomes the volume's, whole
 abbrev pub as_volume : Reading → VolumeFault

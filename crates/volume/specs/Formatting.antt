@@ -5,6 +5,7 @@ use Rattle.devices.specs.declared.device.Cause.TheVariants.{Bad}
 use Rattle.devices.specs.declared.device.DeviceFault.{DeviceFault}
 use Rattle.layout.specs.Map.{map_sectors, map_sector}
 use Rattle.layout.specs.Names.{VolumeName}
+use Rattle.paths.specs.Paths.{open_count}
 use Rattle.volume.specs.NewVolume.{root_of, slots_of, new_identification, taken_first, new_root, new_slots}
 use Rattle.volume.specs.declared.fault.Part.{Part}
 use Rattle.volume.specs.declared.fault.Part.TheVariants as part
@@ -48,8 +49,8 @@ pub record Fresh (v : Volume) (T root a : ℕ) : Type 0 where
   pub total : v.total ≡ T
   pub root_is : v.root ≡ root
   pub allocation : v.allocation ≡ a
-  pub none_open : v.paths.count ≡ 0
-  pub none_opened : v.opened ≡ 0
+  pub none_open : open_count v.paths.places ≡ 0
+  pub none_opened : v.paths.opened ≡ 0
 
 -- the first bad sector of those that format writes
 pub record FirstBad (m : Meaning) (T l : ℕ) : Type 0 where

@@ -1,10 +1,13 @@
-ghost use Rattle.std.specs.Prelude.{◌≡◌, Result};
-ghost use Rattle.volume.specs.Faults.{as_volume, carried, refusal_number, number_of, place_of, layer_of};
+ghost use Rattle.std.specs.Prelude.{◌≡◌, Some, Result};
+ghost use Rattle.volume.specs.Faults.{as_volume, carried, layer_word, refusal_number, number_of, place_of, layer_of};
+ghost use Rattle.volume.specs.Surveying.{part_read, refusal_for};
 ghost use Rattle.volume.specs.declared.fault.Part.{Part};
 ghost use Rattle.volume.specs.declared.fault.Reading.{Reading};
 
 use devices::device::DeviceFault;
 use rules::rule::Rule;
+use std::fmt;
+use survey::finding::{Finding, Reading as SurveyReading};
 
 // The layers of the library, the lowest first. A refusal names the one that it first came from.
 #[derive(Clone, Copy, PartialEq, Eq, Debug)]
@@ -38,14 +41,14 @@ pub enum VolumeRefusal {
 }
 
 // A device's refusal, with the part that was being read.
-#[derive(Clone, Copy, Debug)]
+#[derive(Clone, Copy, PartialEq, Eq, Debug)]
 pub struct Reading {
     pub part: Part,
     pub fault: DeviceFault,
 }
 
 // A refusal of the volume layer: its own, with its place, or a device's, whole.
-#[derive(Clone, Copy, Debug)]
+#[derive(Clone, Copy, PartialEq, Eq, Debug)]
 pub enum VolumeFault {
     Device(Reading),
     Refused {
@@ -56,6 +59,34 @@ pub enum VolumeFault {
         rule: Rule,
         sector: usize,
     },
+}
+
+// The refusal of arguments that are not lawful.
+pub(crate) const UNLAWFUL: VolumeFault = VolumeFault::Refused {
+    refusal: VolumeRefusal::Arguments,
+    place: 0,
+};
+
+impl Layer {
+    // The name of the layer in a refusal's line.
+    pub fn name(self) -> &'static str
+        ensures { result.now ≡ layer_word self }
+    {
+        match self {
+            Layer::Devices => "devices",
+            Layer::Volume => "volume",
+            Layer::Files => "files",
+            Layer::Pathlists => "pathlists",
+        }
+    }
+}
+
+impl fmt::Display for Layer {
+    ghost output = { λ l. Some (layer_word l) };
+
+    fn fmt<W: fmt::Write>(&self, f: &mut fmt::Formatter<W>) -> fmt::Result {
+        f.write_str(self.name())
+    }
 }
 
 impl VolumeRefusal {
@@ -111,6 +142,35 @@ impl From<Reading> for VolumeFault {
     }
 }
 
+// The part of a volume that a survey was reading.
+impl From<SurveyReading> for Part {
+    ghost from_gives = { λ x y. y ≡ part_read x };
+
+    fn from(value: SurveyReading) -> Part {
+        match value {
+            SurveyReading::Descriptor => Part::Descriptor,
+            SurveyReading::Directory => Part::Directory,
+            SurveyReading::Map => Part::Map,
+            SurveyReading::Sector => Part::Sector,
+        }
+    }
+}
+
+// What ends a survey, as a refusal of the volume.
+impl From<Finding> for VolumeFault {
+    ghost from_gives = { λ x y. y ≡ refusal_for x };
+
+    fn from(value: Finding) -> VolumeFault {
+        match value {
+            Finding::Broken { rule, sector } => VolumeFault::Broken { rule, sector },
+            Finding::Unread { reading, fault } => VolumeFault::Device(Reading {
+                part: Part::from(reading),
+                fault,
+            }),
+        }
+    }
+}
+
 // Says which part was being read, so that `?` can carry a device's refusal up.
 pub trait During<T>: Sized {
     ghost faulted: { Self → Part → Result T Reading };
@@ -123,9 +183,6 @@ impl<T> During<T> for Result<T, DeviceFault> {
     ghost faulted = { carried };
 
     fn during(self, part: Part) -> Result<T, Reading> {
-        match self {
-            Ok(x) => Ok(x),
-            Err(fault) => Err(Reading { part, fault }),
-        }
+        self.map_err(|fault| Reading { part, fault })
     }
 }

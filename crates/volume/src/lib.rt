@@ -8,6 +8,7 @@ pub mod format;
 pub mod new_map;
 pub mod new_sectors;
 pub mod open_paths;
+mod plan;
 pub mod sectors;
 pub mod survey_volume;
 pub mod volume_record;

@@ -1,97 +1,64 @@
-ghost use Rattle.std.specs.Prelude.{◌≡◌, ℕ, ◌<◌, ◌≤◌, true, length, MatchBool};
+ghost use Rattle.std.specs.Prelude.{◌≡◌, ℕ, ◌<◌, ◌≤◌, length, IsSome, MatchOption};
 ghost use Rattle.devices.specs.Meaning.{Whole};
-ghost use Rattle.rules.specs.Rules.{sectors_of, map_of, root_at, RuleA};
-ghost use Rattle.volume.specs.Surveying.{part_read, refusal_for, RootAnswer, SurveyAnswer, Passes};
+ghost use Rattle.rules.specs.Rules.{sectors_of, RuleA};
+ghost use Rattle.survey.specs.Walks.{Identified};
+ghost use Rattle.volume.specs.Surveying.{RootAnswer, SurveyAnswer, Passes};
 
-use super::fault::{Part, Reading as PartReading, VolumeFault, VolumeRefusal};
+use super::fault::{Part, UNLAWFUL, VolumeFault, VolumeRefusal};
 use super::sectors::load;
 use super::volume_record::Volume;
-use devices::device::{Device, SECTOR};
+use devices::device::{Device, Sector};
 use layout::bitmap::{map_bytes, map_length};
 use layout::numbers::number_at;
 use rules::rule::Rule;
+use survey::bounds::Bounds;
 use survey::descriptor_checks::is_directory;
-use survey::finding::{Finding, Reading};
 use survey::sector_checks::check_sectors;
+use survey::subject::Subject;
 use survey::waiting::Waiting;
 
-// Whether an identification sector is lawful on its device.
-fn is_identified<D: Device>(device: &D, sector: &[u8; SECTOR]) -> bool
+// How many sectors the volume of an identification sector has, if the sector is lawful on its device.
+fn identified_total<D: Device>(device: &D, sector: &Sector) -> Option<usize>
     requires { sector.now ≡ (D.Device.meaning device.now).sector 0 }
-    ensures is { MatchBool result (RuleA (D.Device.meaning device.now)) (RuleA (D.Device.meaning device.now) → ⊥) }
-    ensures whole { result ≡ true → Whole (D.Device.meaning device.now) }
+    ensures is { MatchOption result (RuleA (D.Device.meaning device.now) → ⊥) (λ total. RuleA (D.Device.meaning device.now) × (total ≡ sectors_of (D.Device.meaning device.now))) }
+    ensures whole { IsSome result → Whole (D.Device.meaning device.now) }
 {
-    let total = number_at(sector, 0x00, 3);
-    let 16..=65536 = total else {
-        return false;
+    let total @ 16..=65536 = number_at(sector, 0x00, 3) else {
+        return None;
     };
     let true = total <= device.count() else {
-        return false;
+        return None;
     };
     let true = number_at(sector, 0x04, 2) == map_bytes(total) else {
-        return false;
+        return None;
     };
     let 1 = number_at(sector, 0x06, 2) else {
-        return false;
+        return None;
     };
     let (0 | 256) = number_at(sector, 0x68, 2) else {
-        return false;
+        return None;
     };
-    true
-}
-
-// The part of a volume that a survey was reading.
-fn part_read(reading: Reading) -> Part
-    ensures { result ≡ part_read reading }
-{
-    match reading {
-        Reading::Descriptor => Part::Descriptor,
-        Reading::Directory => Part::Directory,
-        Reading::Map => Part::Map,
-        Reading::Sector => Part::Sector,
-    }
-}
-
-// What ends a survey, as a refusal of the volume.
-fn refused_for(finding: Finding) -> VolumeFault
-    ensures { result ≡ refusal_for finding }
-{
-    match finding {
-        Finding::Broken { rule, sector } => VolumeFault::Broken { rule, sector },
-        Finding::Unread { reading, fault } => VolumeFault::Device(PartReading {
-            part: part_read(reading),
-            fault,
-        }),
-    }
+    Some(total)
 }
 
 // Asks that the root's descriptor lies behind the map and within the volume, and that it is a directory's.
-fn check_root<D: Device>(
-    device: &D,
-    root: usize,
-    low: usize,
-    high: usize,
-) -> Result<(), VolumeFault>
-    requires total { high ≡ sectors_of (D.Device.meaning device.now) }
-    requires map { low ≡ map_of (D.Device.meaning device.now) }
-    requires top { root ≡ root_at (D.Device.meaning device.now) }
-    requires whole { Whole (D.Device.meaning device.now) }
-    requires there { high ≤ (D.Device.meaning device.now).count }
-    ensures { RootAnswer (D.Device.meaning device.now) result }
+fn check_root<D: Device>(subject: &Subject<'_, D>, root: usize) -> Result<(), VolumeFault>
+    requires { Identified (D.Device.meaning subject.now.device.now) root subject.now.bounds.low subject.now.bounds.high }
+    ensures { RootAnswer (D.Device.meaning subject.now.device.now) result }
 {
-    if root <= low || high <= root {
+    let true = subject.bounds.contains(root) else {
         return Err(VolumeFault::Broken {
             rule: Rule::B,
             sector: 0,
         });
-    }
-    let descriptor = load(device, root, Part::Descriptor)?;
-    if !is_directory(&descriptor) {
+    };
+    let descriptor = load(subject.device, root, Part::Descriptor)?;
+    let true = is_directory(&descriptor) else {
         return Err(VolumeFault::Broken {
             rule: Rule::F,
             sector: root,
         });
-    }
+    };
     Ok(())
 }
 
@@ -107,30 +74,30 @@ pub fn survey<D: Device>(
     ensures passes { Passes (D.Device.meaning device.now) allocation (length marks.old) (length waiting.old) result }
 {
     let 1..=255 = allocation else {
-        return Err(VolumeFault::Refused {
-            refusal: VolumeRefusal::Arguments,
-            place: 0,
-        });
+        return Err(UNLAWFUL);
     };
     let identification = load(device, 0, Part::Identification)?;
-    let true = is_identified(device, &identification) else {
+    let Some(total) = identified_total(device, &identification) else {
         return Err(VolumeFault::Broken {
             rule: Rule::A,
             sector: 0,
         });
     };
-    let total = number_at(&identification, 0x00, 3);
     let root = number_at(&identification, 0x08, 3);
-    let low = map_length(total);
-    if marks.len() < total || waiting.len() < total {
+    let subject = Subject {
+        device,
+        bounds: Bounds {
+            low: map_length(total),
+            high: total,
+        },
+    };
+    let true = (total <= marks.len() && total <= waiting.len()) else {
         return Err(VolumeFault::Refused {
             refusal: VolumeRefusal::WorkLists,
             place: 0,
         });
-    }
-    check_root(device, root, low, total)?;
-    if let Err(finding) = check_sectors(device, root, low, total, marks, waiting) {
-        return Err(refused_for(finding));
-    }
+    };
+    check_root(&subject, root)?;
+    check_sectors(&subject, root, marks, waiting)?;
     Ok(Volume::unopened(total, root, allocation))
 }

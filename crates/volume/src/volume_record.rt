@@ -1,6 +1,7 @@
 ghost use Rattle.std.specs.Prelude.{◌≡◌, ◌<◌, ◌≤◌};
+ghost use Rattle.paths.specs.Paths.{open_count};
 
-use super::open_paths::OpenPaths;
+use paths::open_paths::OpenPaths;
 
 // The record of a volume that was made or surveyed: every call on the volume takes it and keeps it up.
 // Only this crate makes one, so that none is about sectors that were never looked at.
@@ -10,7 +11,6 @@ pub struct Volume {
     root: usize,
     allocation: usize,
     paths: OpenPaths,
-    opened: u32,
     ghost least: { 16 ≤ total },
     ghost most: { total ≤ 65536 },
     ghost inside: { root < total },
@@ -23,14 +23,13 @@ impl Volume {
     pub(crate) fn unopened(total: usize, root: usize, allocation: usize) -> Volume
         requires whole { (16 ≤ total) × (total ≤ 65536) × (root < total) }
         requires unit { (1 ≤ allocation) × (allocation ≤ 255) }
-        ensures { (result.total ≡ total) × (result.root ≡ root) × (result.allocation ≡ allocation) × (result.paths.count ≡ 0) × (result.opened ≡ 0) }
+        ensures { (result.total ≡ total) × (result.root ≡ root) × (result.allocation ≡ allocation) × (open_count result.paths.places ≡ 0) × (result.paths.opened ≡ 0) }
     {
         Volume {
             total,
             root,
             allocation,
             paths: OpenPaths::none(),
-            opened: 0,
         }
     }
 
@@ -57,15 +56,16 @@ impl Volume {
 
     // How many paths are open.
     pub fn open(&self) -> usize
-        ensures { result ≡ self.now.paths.count }
+        ensures is { result ≡ open_count self.now.paths.places }
+        ensures few { result ≤ 16 }
     {
-        self.paths.len()
+        self.paths.count()
     }
 
     // How many paths were ever opened.
     pub fn opened(&self) -> u32
-        ensures { result ≡ self.now.opened }
+        ensures { result ≡ self.now.paths.opened }
     {
-        self.opened
+        self.paths.opened()
     }
 }

@@ -53,10 +53,8 @@ fn in_order(rt: &impl Abort, heap: Global, bytes: &[u8]) -> Result<Vec<u8>, Fail
 fn alike(rt: &impl Abort, before: &[u8], after: &[u8]) -> Result<(), Fail> {
     assert_eq!(rt; before.len(), after.len());
     let total = inspect(before)?.total();
-    assert!(rt; total < 65536);
-    for (old, new) in before.iter().zip(after).take(8 + total) {
-        assert!(rt; *old == *new);
-    }
+    assert!(rt; total < 65536 && 8 + total <= before.len());
+    assert_eq!(rt; &before[..8 + total], &after[..8 + total]);
     Ok(())
 }
 
@@ -105,9 +103,9 @@ fn unformatted(
 ) -> Result<(), Fail> {
     let bytes = spoilt(rt, heap, total > 250, bad)?;
     let mut tray = Tray::new(bytes.clone()?);
-    let Err(fault) = format(&mut tray, total, b"Worn", 8) else {
-        return Err(Fail::new("a volume was made"));
-    };
+    let fault = format(&mut tray, total, b"Worn", 8)
+        .err()
+        .ok_or("a volume was made")?;
     is_bad(rt, fault, lsn, reading)?;
     assert!(rt; tray.into_bytes() == bytes);
     Ok(())
@@ -142,9 +140,9 @@ fn unlawful_arguments_come_before_a_bad_sector(rt: HostRuntime) -> Result<(), Fa
     let bytes = spoilt(&rt, rt.alloc(), false, &[0, 1, 2, 3])?;
     let mut tray = Tray::new(bytes.clone()?);
     for (total, allocation) in [(15, 8), (251, 8), (200, 0), (200, 256)] {
-        let Err(fault) = format(&mut tray, total, b"Worn", allocation) else {
-            return Err(Fail::new("a volume was made"));
-        };
+        let fault = format(&mut tray, total, b"Worn", allocation)
+            .err()
+            .ok_or("a volume was made")?;
         assert_eq!(rt; fault.number(), 20);
         assert_eq!(rt; fault.layer(), Layer::Volume);
     }
@@ -206,9 +204,9 @@ fn a_map_that_turns_bad_is_not_counted(rt: HostRuntime) -> Result<(), Fail> {
         let volume = format(&mut tray, 2049, b"Worn", 8)?;
         let mut bytes = tray.into_bytes();
         spoil(&rt, bytes.as_mut_slice(), lsn)?;
-        let Err(fault) = clear_sectors(&Tray::new(bytes), &volume) else {
-            return Err(Fail::new("the sectors were counted"));
-        };
+        let fault = clear_sectors(&Tray::new(bytes), &volume)
+            .err()
+            .ok_or("the sectors were counted")?;
         is_bad(&rt, fault, lsn, Part::Map)?;
     }
     Ok(())
@@ -238,9 +236,9 @@ fn a_window_of_a_tray_is_formatted(rt: HostRuntime) -> Result<(), Fail> {
 fn a_window_with_a_bad_sector_is_refused(rt: HostRuntime) -> Result<(), Fail> {
     let bytes = spoilt(&rt, rt.alloc(), false, &[9, 10])?;
     let mut window = Window::new(Tray::new(bytes.clone()?), 7, 40);
-    let Err(fault) = format(&mut window, 40, b"Part", 255) else {
-        return Err(Fail::new("a volume was made"));
-    };
+    let fault = format(&mut window, 40, b"Part", 255)
+        .err()
+        .ok_or("a volume was made")?;
     is_bad(&rt, fault, 2, Part::Descriptor)?;
     assert!(rt; window.into_lower().into_bytes() == bytes);
     Ok(())

@@ -1,3 +1,4 @@
+use super::passes;
 use crate::new_volume::{NewVolume, map_sectors};
 use devices::device::Device;
 use devices::flat::FlatImage;
@@ -73,9 +74,9 @@ fn unlawful(
     allocation: usize,
 ) -> Result<(), Fail> {
     let mut image = FlatImage::new(blank(heap, count)?);
-    let Err(fault) = format(&mut image, total, name, allocation) else {
-        return Err(Fail::new("a volume was made"));
-    };
+    let fault = format(&mut image, total, name, allocation)
+        .err()
+        .ok_or("a volume was made")?;
     assert_eq!(rt; fault.number(), 20);
     assert_eq!(rt; fault.place(), 0);
     assert_eq!(rt; fault.layer(), Layer::Volume);
@@ -103,8 +104,7 @@ const LAWFUL: [(usize, u32); 12] = [
 fn every_byte_of_a_new_volume_is_right(rt: HostRuntime) -> Result<(), Fail> {
     for (total, count) in LAWFUL {
         let checked = lawful(&rt, rt.alloc(), count, total, b"Backup_1", 8);
-        assert!(rt; checked.is_ok(), "{total} of {count} sectors");
-        checked?;
+        passes(&rt, checked, format_args!("{total} of {count} sectors"))?;
     }
     Ok(())
 }
@@ -124,8 +124,7 @@ fn a_total_out_of_bounds_is_refused(rt: HostRuntime) -> Result<(), Fail> {
         (usize::MAX, 16),
     ] {
         let checked = unlawful(&rt, rt.alloc(), count, total, b"Backup_1", 8);
-        assert!(rt; checked.is_ok(), "{total} of {count} sectors");
-        checked?;
+        passes(&rt, checked, format_args!("{total} of {count} sectors"))?;
     }
     Ok(())
 }

@@ -1,4 +1,4 @@
-use super::refused;
+use super::{passes, refused};
 use crate::{header, tray_bytes};
 use devices::device::{Cause, Device};
 use devices::inspection::{TrayFault, TrayQuestion, inspect};
@@ -118,12 +118,7 @@ fn a_failed_tray_has_no_sectors(rt: HostRuntime) -> Result<(), Fail> {
 
 // Whether steps of the interleave come to every place of a track before they come back to the first.
 fn goes_round(sectors: u8, interleave: u8) -> bool {
-    for steps in 1..sectors {
-        if u16::from(steps) * u16::from(interleave) % u16::from(sectors) == 0 {
-            return false;
-        }
-    }
-    true
+    (1..sectors).all(|steps| u16::from(steps) * u16::from(interleave) % u16::from(sectors) != 0)
 }
 
 // In a lawful geometry of two tracks each sector has a place of its own, in its own track.
@@ -151,11 +146,11 @@ fn every_sector_has_a_place_of_its_own(rt: HostRuntime) -> Result<(), Fail> {
     for sectors in 1..=64 {
         for interleave in 1..=sectors {
             let checked = places_differ(&rt, rt.alloc(), sectors, interleave);
-            assert!(rt;
-                checked.is_ok(),
-                "{sectors} sectors, interleave {interleave}"
-            );
-            checked?;
+            passes(
+                &rt,
+                checked,
+                format_args!("{sectors} sectors, interleave {interleave}"),
+            )?;
         }
     }
     Ok(())

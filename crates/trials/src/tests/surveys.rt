@@ -1,3 +1,4 @@
+use super::passes;
 use devices::flat::FlatImage;
 use rules::rule::Rule;
 use std::alloc::Global;
@@ -30,49 +31,33 @@ fn broken(
     bytes[offset] = byte;
     let image = FlatImage::new(bytes);
     let mut marks = [0u8; 64];
-    let mut waiting = [Waiting {
-        lsn: 0,
-        parent: 0,
-        name: [0; 28],
-    }; 64];
-    match survey(&image, 8, &mut marks, &mut waiting) {
-        Err(
-            VolumeFault::Broken {
-                rule: found,
-                sector: at,
-            },
-        ) => {
-            assert_eq!(rt; found, rule);
-            assert_eq!(rt; at, sector);
-            Ok(())
-        }
-        _ => Err(Fail::new("the rule was not found to be broken")),
-    }
+    let mut waiting = [Waiting::UNUSED; 64];
+    let Err(
+        VolumeFault::Broken {
+            rule: found,
+            sector: at,
+        },
+    ) = survey(&image, 8, &mut marks, &mut waiting)
+    else {
+        return Err(Fail::new("the rule was not found to be broken"));
+    };
+    assert_eq!(rt; found, rule);
+    assert_eq!(rt; at, sector);
+    Ok(())
 }
 
 #[test]
 fn a_new_volume_passes(rt: HostRuntime) -> Result<(), Fail> {
     let image = FlatImage::new(new_image(&rt, rt.alloc())?);
     let mut marks = [7u8; 70];
-    let mut waiting = [Waiting {
-        lsn: 0,
-        parent: 0,
-        name: [0; 28],
-    }; 64];
+    let mut waiting = [Waiting::UNUSED; 64];
     let volume = survey(&image, 255, &mut marks, &mut waiting)?;
     assert_eq!(rt; volume.total(), 64);
     assert_eq!(rt; volume.root(), 2);
     assert_eq!(rt; volume.allocation(), 255);
-    for k in 0..70 {
-        let expected = if k < 4 {
-            1
-        } else if k < 64 {
-            0
-        } else {
-            7
-        };
-        assert_eq!(rt; marks[k], expected);
-    }
+    assert_eq!(rt; &marks[..4], [1; 4].as_slice());
+    assert_eq!(rt; &marks[4..64], [0; 60].as_slice());
+    assert_eq!(rt; &marks[64..], [7; 6].as_slice());
     Ok(())
 }
 
@@ -104,8 +89,11 @@ const DAMAGE: [(usize, u8, Rule, usize); 20] = [
 fn a_damaged_volume_is_refused(rt: HostRuntime) -> Result<(), Fail> {
     for (offset, byte, rule, sector) in DAMAGE {
         let checked = broken(&rt, rt.alloc(), offset, byte, rule, sector);
-        assert!(rt; checked.is_ok(), "byte {offset} changed to {byte}");
-        checked?;
+        passes(
+            &rt,
+            checked,
+            format_args!("byte {offset} changed to {byte}"),
+        )?;
     }
     Ok(())
 }
@@ -114,18 +102,14 @@ fn a_damaged_volume_is_refused(rt: HostRuntime) -> Result<(), Fail> {
 fn unlawful_arguments(rt: HostRuntime) -> Result<(), Fail> {
     let image = FlatImage::new(new_image(&rt, rt.alloc())?);
     let mut marks = [0u8; 64];
-    let mut waiting = [Waiting {
-        lsn: 0,
-        parent: 0,
-        name: [0; 28],
-    }; 63];
-    let Err(fault) = survey(&image, 256, &mut marks, &mut waiting) else {
-        return Err(Fail::new("a survey passed"));
-    };
+    let mut waiting = [Waiting::UNUSED; 63];
+    let fault = survey(&image, 256, &mut marks, &mut waiting)
+        .err()
+        .ok_or("a survey passed")?;
     assert_eq!(rt; fault.number(), 20);
-    let Err(fault) = survey(&image, 8, &mut marks, &mut waiting) else {
-        return Err(Fail::new("a survey passed"));
-    };
+    let fault = survey(&image, 8, &mut marks, &mut waiting)
+        .err()
+        .ok_or("a survey passed")?;
     assert_eq!(rt; fault.number(), 19);
     assert_eq!(rt; fault.place(), 0);
     Ok(())

@@ -17,8 +17,8 @@ fn two_tracks(heap: Global, bad: &[usize]) -> Result<Vec<u8>, Fail> {
 #[test]
 fn sectors_lie_by_the_interleave(rt: HostRuntime) -> Result<(), Fail> {
     let geometry = inspect(two_tracks(rt.alloc(), &[])?.as_slice())?;
-    for k in 0..10 {
-        let place = usize::from(ROUND[k]);
+    for (k, place) in ROUND.into_iter().enumerate() {
+        let place = usize::from(place);
         assert_eq!(rt; geometry.place(k), Some(place));
         assert_eq!(rt; geometry.place(10 + k), Some(10 + place));
     }
@@ -33,8 +33,8 @@ fn a_sector_is_read_from_its_place(rt: HostRuntime) -> Result<(), Fail> {
     let bytes = two_tracks(rt.alloc(), &[])?;
     let tray = Tray::new(bytes.clone()?);
     assert_eq!(rt; tray.count(), 20);
-    for k in 0..10 {
-        let place = usize::from(ROUND[k]);
+    for (k, place) in ROUND.into_iter().enumerate() {
+        let place = usize::from(place);
         let mut sector = [0; 256];
         tray.read(k, &mut sector)?;
         assert!(rt; sector == sector_at(bytes.as_slice(), 28 + place * 256));
@@ -47,8 +47,8 @@ fn a_sector_is_read_from_its_place(rt: HostRuntime) -> Result<(), Fail> {
 
 #[test]
 fn a_write_changes_its_place_alone(rt: HostRuntime) -> Result<(), Fail> {
-    for k in 0..10 {
-        let place = usize::from(ROUND[k]);
+    for (k, place) in ROUND.into_iter().enumerate() {
+        let place = usize::from(place);
         let mut bytes = two_tracks(rt.alloc(), &[])?;
         let mut tray = Tray::new(bytes.clone()?);
         tray.write(k, &[0xA5; 256])?;

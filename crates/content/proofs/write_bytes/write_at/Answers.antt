@@ -1,70 +1,64 @@
-use Rattle.std.proofs.Common.{◌≡◌, ◌+◌, ◌/◌, length, take, sym, refl, ◌∙◌, subst, arith}
-use Rattle.std.proofs.lemmas.List.{take_all}
+use Rattle.std.proofs.Common.{length, take, refl, ◌∙◌, arith}
 use Rattle.std.proofs.lemmas.Result.{err_from_is_err_and}
-use Rattle.descriptors.proofs.Blocks.{nth_some}
 use Rattle.descriptors.proofs.Bounds.{held_few}
-use Rattle.descriptors.proofs.Extents.{nth-none}
-use Rattle.devices.specs.Meaning.{Refuses}
 use Rattle.content.specs.Rows.{sectors, Beside}
-use Rattle.content.specs.Writing.{Written}
+use Rattle.content.proofs.PartSteps.{next_part, refused_at}
 use Rattle.content.proofs.WriteSteps.{write_none, write_same, write_turn, refused_before}
 use Rattle.content.proofs.write_bytes.write_at.Goals as goal
 
-pub loop-done-init : goal.loop-done-init
-loop-done-init g c = (omega arith, write_none (g.D.Device.meaning c.args.device.now) (sectors c.args.descriptor.now) c.args.position, refl)
+pub of-part-items-requires : goal.of-part-items-requires
+of-part-items-requires g c = omega (arith, held_few c.args.descriptor.now c.fits-descriptor, c.requires)
 
-pub overflow_add-at : goal.overflow_add-at
-overflow_add-at g c = omega (arith, held_few c.args.descriptor.now c.fits-descriptor, c.requires)
-
-pub unreachable-requires : goal.unreachable-requires
-unreachable-requires g c =
-    omega (arith, nth-none (sectors c.args.descriptor.now) ((c.args.position + c.loop-done.done) / 256) c.in_default.ensures)
-
-pub returns-in_err-write_part : goal.returns-in_err-write_part
-returns-in_err-write_part g c =
-    let r = err_from_is_err_and c.from_residual.result c.from_residual.ensures.1 in
-    let m₀ = g.D.Device.meaning c.args.device.now in
-    let m = g.D.Device.meaning c.loop-done.device in
-    let m' = g.D.Device.meaning c.write_part.new.device in
-    let e = sectors c.args.descriptor.now in
-    let p = c.args.position in
-    let d = c.loop-done.done in
-    let f = c.in_err-write_part.field-0.0 in
-    let w = c.loop-done.invariant.1 in
-    let no = c.in_err-write_part.ensures in
-    let some = nth_some e ((p + d) / 256) c.in-Some.lsn (sym c.in-Some.ensures) in
-    rw (r.1, r.2)
-    (record {
-      done = record {
-        done = d;
-        less = omega arith;
-        refused = (some.0, subst (λ l. Refuses m₀ l 256 f) some.1 (refused_before (Beside e p (length (take d c.args.bytes.now))) m₀ m c.in-Some.lsn f w.kept no.done.0));
-        wrote = write_same m₀ m m' e c.args.bytes.now p d w no.done.1;
-      };
-      beside = no.beside ∙ c.loop-done.invariant.2;
-    })
-
-pub loop-done-preserved : goal.loop-done-preserved
-loop-done-preserved g c =
-    let m₀ = g.D.Device.meaning c.args.device.now in
-    let m = g.D.Device.meaning c.loop-done.device in
-    let m' = g.D.Device.meaning c.write_part.new.device in
-    let e = sectors c.args.descriptor.now in
-    let p = c.args.position in
-    let d = c.loop-done.done in
-    let some = nth_some e ((p + d) / 256) c.in-Some.lsn (sym c.in-Some.ensures) in
-    let yes = c.in_ok-write_part.ensures in (
-      omega arith,
-      write_turn m₀ m m' e c.args.bytes.now p d c.loop-done.invariant.1 c.min-end.result c.in-Some.lsn _
-          some.0 some.1 (omega arith) (omega arith) (omega arith) refl yes.done,
-      yes.beside ∙ c.loop-done.invariant.2,
-    )
-
-pub returns : goal.returns
-returns g c =
-    let bs = c.args.bytes.now in
-    let all : take c.loop-done.done bs ≡ bs = take_all c.loop-done.done bs (omega arith) in
+pub loop-part-init : goal.loop-part-init
+loop-part-init g c =
+    let same = c.into_iter-part-iterator.ensures.into_iter_gives in
     record {
-      done = subst (λ l. Written (g.D.Device.meaning c.args.device.now) (g.D.Device.meaning c.loop-done.device) (sectors c.args.descriptor.now) c.args.position l) all c.loop-done.invariant.1;
-      beside = c.loop-done.invariant.2;
+      can_next = tt;
+      is_finite = tt;
+      parts = rw same c.of-part-items.ensures.of;
+      written = rw (same, c.of-part-items.ensures.first) (write_none (g.D.Device.meaning c.args.device.now) (sectors c.args.descriptor.now) c.args.position);
+      beside = refl;
     }
+
+pub loop-part-preserved : goal.loop-part-preserved
+loop-part-preserved g c =
+    let m₀ = g.D.Device.meaning c.args.device.now in
+    let m = g.D.Device.meaning c.loop-part.device in
+    let m' = g.D.Device.meaning c.write_part.new.device in
+    let s = c.args.descriptor.now in
+    let bs = c.args.bytes.now in
+    let p = c.args.position in
+    let ps = c.loop-part.part-iterator in
+    let was = c.loop-part.invariant in
+    let wrote = c.in_ok-write_part.ensures in
+    let turn = next_part ps c.next.new.self s p (length bs) was.parts c.in-Some.part c.in-Some.ensures.steps in
+    record {
+      can_next = tt;
+      is_finite = tt;
+      parts = turn.1;
+      written = write_turn m₀ m m' (sectors s) bs p ps.done was.written c.next.new.self.done c.in-Some.part turn.0 turn.2 wrote.done;
+      beside = wrote.beside ∙ was.beside;
+    }
+
+pub returns-in_err-write_part-clause-done : goal.returns-in_err-write_part-clause-done
+returns-in_err-write_part-clause-done g c =
+    let err = err_from_is_err_and c.from_residual.result c.from_residual.ensures.1 in
+    let m₀ = g.D.Device.meaning c.args.device.now in
+    let m = g.D.Device.meaning c.loop-part.device in
+    let m' = g.D.Device.meaning c.write_part.new.device in
+    let e = sectors c.args.descriptor.now in
+    let bs = c.args.bytes.now in
+    let p = c.args.position in
+    let done = c.loop-part.part-iterator.done in
+    let part = c.in-Some.part in
+    let f = c.in_err-write_part.field-0.0 in
+    let was = c.loop-part.invariant in
+    let is = (next_part c.loop-part.part-iterator c.next.new.self c.args.descriptor.now p (length bs) was.parts part c.in-Some.ensures.steps).0 in
+    let refused = c.in_err-write_part.ensures.done in
+    rw (err.1, err.2)
+    (record {
+      done = done;
+      less = is.less;
+      refused = refused_at m₀ e p (length bs) done part f is (refused_before (Beside e p (length (take done bs))) m₀ m part.lsn f was.written.kept refused.0);
+      wrote = write_same m₀ m m' e bs p done was.written refused.1;
+    })

@@ -1,19 +1,15 @@
-use Rattle.std.proofs.Common.{◌≡◌, ap, ◌∙◌}
-use Rattle.descriptors.specs.Created.{new_descriptor}
-use Rattle.descriptors.specs.Lists.{listed}
-use Rattle.descriptors.specs.Shown.{shown}
-use Rattle.descriptors.proofs.Creating.{new_shows}
-use Rattle.descriptors.proofs.Storing.{listed_few}
+use Rattle.std.proofs.Common.{ap, ◌∙◌, arith}
+use Rattle.descriptors.specs.Shown.{shown, with_segments}
+use Rattle.descriptors.proofs.Creating.{one_byte, new_shows}
 use Rattle.descriptors.proofs.new_descriptor.new_descriptor.Goals as goal
 
-pub returns : goal.returns
-returns c =
-    let h = c.args.heading.now in
-    let n = c.args.size in
-    let l = c.args.segments.now in
-    let is : c.write_segments.new.descriptor ≡ new_descriptor h n (listed l) = cc in
-    record {
-      is = is;
-      shows = ap shown is ∙ new_shows h n (listed l) h.byte h.word h.five h.three c.requires.fits (listed_few l) c.requires.storable;
-      tidy = c.write_segments.ensures.tidy;
-    }
+pub returns-clause-is : goal.returns-clause-is
+returns-clause-is c = cc (one_byte c.args.heading.now.attribute (omega arith))
+
+pub returns-clause-shows : goal.returns-clause-shows
+returns-clause-shows c =
+    let ss = c.args.segments.now in
+    let one = one_byte c.args.heading.now.attribute (omega arith) in
+    c.write_segments.ensures.shows
+    ∙ ap (λ s. with_segments ss (shown s)) (cc)
+    ∙ new_shows c.args.heading.now c.args.size ss (omega arith) (omega arith) (omega arith) (omega arith) c.requires.fits

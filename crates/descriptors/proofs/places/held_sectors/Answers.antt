@@ -1,24 +1,15 @@
-use Rattle.std.proofs.Common.{◌≡◌, ◌<◌, length, ap, ◌∙◌, arith}
-use Rattle.layout.specs.Descriptor.{extent}
+use Rattle.std.proofs.Common.{sym, ◌∙◌, rules}
+use borrow.Author.Tests.{tests}
+use Rattle.std.proofs.lemmas.Iterator.{YieldsList-from_map}
+use Rattle.std.proofs.lemmas.Iterator.Consumers.{YieldsList-at, YieldsList-from_first, sum_by_from_yields_List}
+use Rattle.layout.specs.Descriptor.{segments}
 use Rattle.layout.specs.declared.segment.Segment.{Segment}
-use Rattle.descriptors.proofs.Extents.{rest, rest_end, more_held}
+use Rattle.descriptors.proofs.Bounds.{sum_len}
 use Rattle.descriptors.proofs.places.held_sectors.Goals as goal
 
-pub loop-k-preserved : goal.loop-k-preserved
-loop-k-preserved c =
-    let s = c.args.descriptor.now in
-    let k = c.loop-k.k in
-    let g = c.segment_at-held.result in
-    let u = c.used_entries-k-end.ensures in
-    let is = c.segment_at-held.ensures.is in
-    let low : k < 48 = omega (arith, u.most) in
-    let more = more_held s k g is low (λ z. u.before k c.loop-k-test.true (omega (arith, ap (λ (x : Segment). x.len) is))) in
-    (omega (arith, more, c.loop-k.invariant.0), omega (arith, c.loop-k.invariant.1, c.segment_at-held.ensures.short))
-
-pub returns : goal.returns
-returns c =
-    let s = c.args.descriptor.now in
-    let u = c.used_entries-k-end.ensures in
-    let all : c.loop-k.k ≡ c.used_entries-k-end.result = omega arith in
-    let none : length (extent (rest s c.loop-k.k)) ≡ 0 = ap (λ l. length (extent l)) (ap (rest s) all ∙ rest_end s c.used_entries-k-end.result u) in
-    record { is = omega (arith, none, c.loop-k.invariant.0); few = omega (arith, c.loop-k.invariant.1, u.most) }
+pub returns-clause-is : goal.returns-clause-is
+returns-clause-is c =
+    let ss = segments c.args.descriptor.now in
+    sum_by_from_yields_List (λ (s : Segment). s.len) ss c.map.result c.sum.result c.sum.ensures.ran
+    (YieldsList-from_map _ (λ (s : Segment). s.len) (YieldsList-at c.map.ensures.source (YieldsList-from_first (λ (s : Segment). s) (λ left. left) ss c.of.ensures.are)) c.map.ensures.closure (λ x r q k. search (rules, tests)))
+    ∙ sym (sum_len ss)

@@ -1,32 +1,17 @@
-use Rattle.std.proofs.Common.{◌≡◌, ◌<◌, sym, ap, ◌∙◌, arith}
+use Rattle.std.proofs.Common.{sym, ap, ◌∙◌}
 use Rattle.std.specs.List.{slice_get}
 use Rattle.layout.specs.Descriptor.{extent}
-use Rattle.layout.specs.declared.segment.Segment.{Segment}
-use Rattle.descriptors.proofs.Extents.{rest, rest_end, here, past}
+use Rattle.descriptors.proofs.Extents.{nth_here, nth_past}
 use Rattle.descriptors.proofs.places.sector_of.Goals as goal
 
 pub returns-then-left-segment : goal.returns-then-left-segment
 returns-then-left-segment c =
-    let s = c.args.descriptor.now in
-    let k = c.loop-k.k in
-    let g = c.segment_at-segment.result in
-    let u = c.used_entries-k-end.ensures in
-    let is = c.segment_at-segment.ensures.is in
-    let low : k < 48 = omega (arith, u.most) in
-    sym (here s k g is low (λ z. u.before k c.loop-k-test.true (omega (arith, ap (λ (x : Segment). x.len) is))) c.loop-k.left c.if-left-segment.true) ∙ c.loop-k.invariant
+    sym (ap (λ ss. slice_get (extent ss) c.loop-segment.left) c.in-Some.ensures.steps ∙ nth_here c.in-Some.segment c.next.new.self c.loop-segment.left c.if-left-segment.true)
+    ∙ c.loop-segment.invariant.0
 
-pub loop-k-preserved : goal.loop-k-preserved
-loop-k-preserved c =
-    let s = c.args.descriptor.now in
-    let k = c.loop-k.k in
-    let g = c.segment_at-segment.result in
-    let u = c.used_entries-k-end.ensures in
-    let is = c.segment_at-segment.ensures.is in
-    let low : k < 48 = omega (arith, u.most) in
-    sym (past s k g is low (λ z. u.before k c.loop-k-test.true (omega (arith, ap (λ (x : Segment). x.len) is))) c.loop-k.left c.if-left-segment.false) ∙ c.loop-k.invariant
-
-pub returns : goal.returns
-returns c =
-    let s = c.args.descriptor.now in
-    let all : c.loop-k.k ≡ c.used_entries-k-end.result = omega arith in
-    sym (ap (λ l. slice_get (extent l) c.loop-k.left) (ap (rest s) all ∙ rest_end s c.used_entries-k-end.result c.used_entries-k-end.ensures)) ∙ c.loop-k.invariant
+pub loop-segment-preserved : goal.loop-segment-preserved
+loop-segment-preserved c =
+    let more = c.in-Some.ensures.steps in (
+      sym (ap (λ ss. slice_get (extent ss) c.loop-segment.left) more ∙ nth_past c.in-Some.segment c.next.new.self c.loop-segment.left c.if-left-segment.false) ∙ c.loop-segment.invariant.0,
+      (rw more at c.loop-segment.invariant.1).1,
+    )

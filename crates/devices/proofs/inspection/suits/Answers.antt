@@ -1,28 +1,22 @@
-use Rattle.std.proofs.Common.{◌≡◌, ◌%◌, ◌≤◌, refl, ⊎_elim, arith}
-use Rattle.std.proofs.lemmas.Bool.{cases_eq}
-use Rattle.devices.proofs.Interleave.{factor_le}
+use Rattle.std.proofs.Common.{◌+◌, ◌≤◌, ap, ◌∙◌, arith, rules}
+use borrow.Author.Tests.{tests}
+use Rattle.std.proofs.iter.runs.Sources.{inclusive_listed}
+use Rattle.std.specs.Range.{range_inclusive_start, range_inclusive_end, range_inclusive_exhausted}
+use Rattle.devices.proofs.Counted.{any_counted, Shared, suits_is}
 use Rattle.devices.proofs.inspection.suits.Goals as goal
-use Rattle.devices.proofs.inspection.suits.Goals.{else-interleave-factor-eq0-via-then-interleave-factor-eq0+else-sectors-factor-eq0 as one, else-interleave-factor-eq0-via-else-interleave-factor-eq0 as other}
 
--- no factor was tried: the interleave is 1
-pub returns-in-true : goal.returns-in-true
-returns-in-true c =
-    let k = c.args.interleave in
-    let low : 1 ≤ k = omega arith in
-    (λ t. (low, omega arith, λ d lt x y. c.loop-factor.invariant d lt (omega (arith, factor_le d k low x)) x y), λ h. refl)
-
--- the last turn, which tries the interleave itself
-pub returns-else-interleave-factor-eq0 : goal.returns-else-interleave-factor-eq0
-returns-else-interleave-factor-eq0 c =
+pub returns : goal.returns
+returns c =
     let k = c.args.interleave in
     let s = c.args.sectors in
-    let last = c.loop-factor.factor in
+    let run = c.any.ensures.runs in
+    let listed = inclusive_listed run.0 run.0.seen in
     let low : 1 ≤ k = omega arith in
-    let here : k % last ≡ 0 → s % last ≡ 0 → ⊥ = λ x y. elim c.else-interleave-factor-eq0.branch [ one w ↦ w.if-sectors-factor-eq0.false y | other w ↦ w.if-interleave-factor-eq0.false x ] in (
-      λ t. (
-        low,
-        omega arith,
-        λ d lt x y. ⊎_elim (λ (e : d ≡ last). here (rw e at x) (rw e at y)) (λ ne. c.loop-factor.invariant d lt (omega (arith, factor_le d k low x)) x y) (cases_eq d last),
-      ),
-      λ h. refl,
-    )
+    let up = listed.4 (ap range_inclusive_exhausted run.1 ∙ c.new.ensures.exhausted) in
+    suits_is k s low c.in-true.is c.any.result
+    (any_counted run.0 listed.0 listed.1 up.0 2 (k + 1)
+    (listed.2 ∙ ap range_inclusive_start run.1 ∙ c.new.ensures.start)
+    (listed.3 ∙ ap (λ r. range_inclusive_end r + 1) run.1 ∙ ap (λ n. n + 1) c.new.ensures.end)
+    _ _ c.any.result (Shared k s) (λ d. Shared k s d → ⊥)
+    (λ a r f t. search (rules, tests)) run.2
+    (λ x t. search (rules, tests)) (λ x t. search (rules, tests)))

@@ -11,4 +11,4 @@ returns c =
     let s = c.args.segment.now in
     let k = c.args.k in
     ap (put_mid 16 240 xs) c.put_nth.ensures.laid
-    ∙ over_part 16 240 (k * 5) (segment_bytes s) xs (omega (arith, c.requires.wide)) (omega (arith, length-segment s, c.requires.few))
+    ∙ over_part 16 240 (k * 5) (segment_bytes s) xs (omega arith) (omega (arith, length-segment s, c.requires.few))

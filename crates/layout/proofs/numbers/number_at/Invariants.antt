@@ -2,5 +2,8 @@ use Rattle.std.proofs.Common.{◌≡◌, ◌^◌, ◌<◌}
 use Rattle.layout.specs.Bytes.{number}
 use Rattle.layout.proofs.numbers.number_at.Given as goal
 
-abbrev pub invariant-loop-k : goal.invariant-loop-k
-invariant-loop-k l = (l.n ≡ number l.at l.k l.bytes) × (l.n < 256 ^ l.k)
+abbrev pub invariant-loop-byte : goal.invariant-loop-byte
+invariant-loop-byte l = record {
+  is : l.n ≡ number l.at l.byte-index l.bytes;
+  fits : l.n < 256 ^ l.byte-index;
+}

@@ -22,11 +22,9 @@ pub loop-index-preserved : goal.loop-index-preserved
 loop-index-preserved g c =
     let d = g.D.Device.meaning c.args.device.now in
     let index = c.loop-index.index in
-    let inv = c.loop-index.invariant in
-    let read : c.read.new.buf ≡ d.sector (1 + index) = search rules in (
-      search rules,
-      λ k lt tot. elim (cases_lt k (index * 2048)) [
-        | inl low ↦ inv.1 k low tot
-        | inr high ↦ of_row d c.args.marks.now c.read.new.buf index k high lt read (c.in_default-check_row.ensures (k - index * 2048) (omega arith))
-      ],
-    )
+    let row = c.in_ok-row.row in
+    let read : row ≡ d.sector (1 + index) = search rules in
+    λ k lt tot. elim (cases_lt k (index * 2048)) [
+      | inl low ↦ c.loop-index.invariant k low tot
+      | inr high ↦ of_row d c.args.marks.now row index k high lt read (c.in_ok-check_row.ensures (k - index * 2048) (omega arith))
+    ]

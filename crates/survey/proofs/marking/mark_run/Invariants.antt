@@ -1,10 +1,9 @@
-use Rattle.std.proofs.Common.{◌≡◌, ℕ, ◌-◌, ◌<◌, get_or}
-use Rattle.layout.specs.Descriptor.{upto}
-use Rattle.rules.specs.Nodes.{times}
-use Rattle.survey.specs.Marks.{Marked}
+use Rattle.std.proofs.Common.{◌≡◌, ℕ, ◌<◌, ◌≤◌, get_or}
 use Rattle.survey.proofs.marking.mark_run.Given as goal
 
-abbrev pub invariant-loop-k : goal.invariant-loop-k
-invariant-loop-k l =
-    Marked l.initial.marks (upto l.start (l.k - l.start)) l.marks
-    × ((i : ℕ) → 0 < times i (upto l.start (l.k - l.start)) → get_or l.marks i 0 ≡ 1)
+abbrev pub invariant-loop-i : goal.invariant-loop-i
+invariant-loop-i l =
+    record {
+      marked : (j : ℕ) → j < l.i → (get_or l.mark-items j 0 ≡ 1) × (get_or l.initial.mark-items j 0 ≡ 0);
+      later : (j : ℕ) → l.i ≤ j → get_or l.mark-items j 0 ≡ get_or l.initial.mark-items j 0;
+    }

@@ -5,7 +5,7 @@ use Rattle.survey.proofs.sector_checks.check_sectors.Goals as goal
 
 pub returns : goal.returns
 returns g c =
-    let d = g.D.Device.meaning c.args.device.now in
+    let d = g.D.Device.meaning c.args.subject.now.device.now in
     let m = c.walk.new.marks in
-    swept d c.args.marks.now m c.requires.inside c.in_default.ensures c.check_map.result
-    (subst (λ (T : ℕ). MapAnswer d m T c.check_map.result) c.requires.total c.check_map.ensures)
+    swept d c.args.marks.now m c.requires.inside c.in_ok-walk.ensures c.check_map.result
+    (subst (λ (T : ℕ). MapAnswer d m T c.check_map.result) c.requires.identified.total c.check_map.ensures)

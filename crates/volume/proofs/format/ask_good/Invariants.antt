@@ -1,5 +1,5 @@
-use Rattle.std.proofs.Common.{◌≡◌, ℕ, ◌<◌, false, length}
+use Rattle.std.proofs.Common.{◌≡◌, ℕ, ◌<◌, false}
 use Rattle.volume.proofs.format.ask_good.Given as goal
 
 abbrev pub invariant-loop-lsn : goal.invariant-loop-lsn
-invariant-loop-lsn g l = (length l.sector ≡ 256) × ((k : ℕ) → k < l.lsn → (g.D.Device.meaning l.device).bad k ≡ false)
+invariant-loop-lsn g l = (k : ℕ) → k < l.lsn → (g.D.Device.meaning l.device).bad k ≡ false

@@ -8,6 +8,6 @@ loop-index-preserved g c =
     let m₁ = g.D.Device.meaning c.loop-index.device in
     let m₂ = g.D.Device.meaning c.replace.new.device in
     let inv = c.loop-index.invariant in (
-      map_more m m₁ m₂ c.args.total c.loop-index.index _ c.requires.fits (omega arith) inv.0 c.replace.ensures.kept c.replace.ensures.here c.new_map_sector-sector.ensures,
+      map_more m m₁ m₂ c.args.plan.total c.loop-index.index _ c.requires.fits (omega arith) inv.0 c.replace.ensures.kept c.replace.ensures.here c.new_map_sector-sector.ensures,
       c.replace.ensures.beside ∙ inv.1,
     )

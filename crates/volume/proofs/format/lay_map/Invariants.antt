@@ -4,5 +4,5 @@ use Rattle.volume.proofs.format.lay_map.Given as goal
 
 abbrev pub invariant-loop-index : goal.invariant-loop-index
 invariant-loop-index g l =
-    MapLaid (g.D.Device.meaning l.initial.device) (g.D.Device.meaning l.device) l.total l.index
+    MapLaid (g.D.Device.meaning l.initial.device) (g.D.Device.meaning l.device) l.plan.total l.index
     × (g.D.Device.aside l.device ≡ g.D.Device.aside l.initial.device)

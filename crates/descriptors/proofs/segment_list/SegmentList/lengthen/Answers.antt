@@ -1,17 +1,13 @@
-use Rattle.std.proofs.Common.{ap, arith}
-use Rattle.layout.specs.declared.segment.Segment.{Segment}
-use Rattle.descriptors.proofs.ListLaws.{listed_length, last_is, put_longer}
+use Rattle.std.proofs.Common.{length, ap, ◌∙◌, arith}
+use Rattle.descriptors.specs.Lists.{lengthened}
+use Rattle.descriptors.specs.Padded.{length_listed}
+use Rattle.descriptors.proofs.ListLaws.{put_longer}
 use Rattle.descriptors.proofs.segment_list.SegmentList.lengthen.Goals as goal
-
-pub overflow_add-self : goal.overflow_add-self
-overflow_add-self c =
-    let self = c.args.self.now in
-    let long = listed_length self.items self.count (omega (arith, self.few, self.long)) in
-    let last = last_is self.items self.count (omega (arith, self.few, self.long)) (omega (arith, long, c.requires.some)) in
-    omega (arith, c.requires.fits, ap (λ (s : Segment). s.len) last)
 
 pub returns : goal.returns
 returns c =
-    let self = c.args.self.now in
-    let long = listed_length self.items self.count (omega (arith, self.few, self.long)) in
-    put_longer self.items self.count (omega (arith, self.few, self.long)) c.args.more (omega (arith, long, c.requires.some))
+    let self = c.self.inside in
+    let more = c.args.more in
+    put_longer self.items self.count (omega (arith, c.self.invariant.few, c.self.invariant.long)) more
+    (omega (arith, length_listed self.items self.count c.self.invariant, ap length c.self.view_is, c.requires.some))
+    ∙ ap (λ ss. lengthened ss more) c.self.view_is

@@ -1,27 +1,21 @@
-use Rattle.std.proofs.Common.{◌≡◌, [], length, drop, ap, arith}
-use Rattle.std.proofs.lemmas.List.{drop_all}
-use Rattle.layout.specs.Descriptor.{extent}
-use Rattle.descriptors.specs.Lists.{listed}
-use Rattle.descriptors.proofs.Cutting.{held_step, storable_at}
+use Rattle.std.proofs.Common.{◌≡◌, ◌<◌, ◌^◌, sym, ap, ◌∙◌, arith, rules}
+use Rattle.std.specs.List.{sum_by}
+use Rattle.std.proofs.iter.runs.Made.{chains}
+use Rattle.layout.specs.declared.segment.Segment.{Segment}
+use Rattle.descriptors.proofs.Bounds.{sum_len, sum_small}
 use Rattle.descriptors.proofs.segment_list.SegmentList.sectors.Goals as goal
 
-pub overflow_add-sum : goal.overflow_add-sum
-overflow_add-sum c =
-    let s = storable_at (listed c.args.self.now) c.loop-k.k c.segment-sum.result (omega arith) c.segment-sum.ensures c.requires in
-    omega (arith, s.short, c.loop-k.invariant.1, c.len-k-end.ensures.few)
+pub sum-requires-clause-fits : goal.sum-requires-clause-fits
+sum-requires-clause-fits c =
+    let small : sum_by (λ (s : Segment). s.len) c.as_slice.result.now < 2 ^ 22 = sum_small _ c.as_slice.ensures.few (rw c.as_slice.ensures.are c.requires) in
+    search (rules, chains)
 
-pub loop-k-preserved : goal.loop-k-preserved
-loop-k-preserved c =
-    let ss = listed c.args.self.now in
-    let s = storable_at ss c.loop-k.k c.segment-sum.result (omega arith) c.segment-sum.ensures c.requires in
-    let more = held_step ss c.loop-k.k c.segment-sum.result (omega arith) c.segment-sum.ensures in
-    (omega (arith, more, c.loop-k.invariant.0), omega (arith, s.short, c.loop-k.invariant.1))
+pub returns-clause-is : goal.returns-clause-is
+returns-clause-is c =
+    let total : c.sum.result ≡ sum_by (λ (s : Segment). s.len) c.as_slice.result.now = search (rules, chains) in
+    total ∙ ap (sum_by (λ (s : Segment). s.len)) c.as_slice.ensures.are ∙ sym (sum_len c.args.self.now)
 
-pub returns : goal.returns
-returns c =
-    let ss = listed c.args.self.now in
-    let none : drop c.loop-k.k ss ≡ [] = drop_all c.loop-k.k ss (omega arith) in
-    record {
-      is = omega (arith, c.loop-k.invariant.0, ap (λ xs. length (extent xs)) none);
-      few = omega (arith, c.loop-k.invariant.1, c.len-k-end.ensures.few);
-    }
+pub returns-clause-few : goal.returns-clause-few
+returns-clause-few c =
+    let total : c.sum.result ≡ sum_by (λ (s : Segment). s.len) c.as_slice.result.now = search (rules, chains) in
+    omega (arith, total, sum_small c.as_slice.result.now c.as_slice.ensures.few (rw c.as_slice.ensures.are c.requires))

@@ -1,4 +1,4 @@
-use Rattle.std.proofs.Common.{◌≡◌, ◌+◌, eqb, get_or, sym, refl, ap, ◌∙◌, arith}
+use Rattle.std.proofs.Common.{◌≡◌, ◌+◌, eqb, get_or, sym, refl, ap, arith}
 use Rattle.std.proofs.lemmas.List.{get_or_read_under}
 use Rattle.std.proofs.lemmas.Result.{err_from_is_err_and}
 use Rattle.devices.specs.Tray.{meaning_under}
@@ -11,11 +11,6 @@ returns-in_err-ask c =
     let p = err_from_is_err_and c.from_residual.result c.from_residual.ensures.1 in
     rw (p.1, p.2) (c.in_err-ask.ensures (meaning_under t.geometry t.bytes.items) (sym c.total-total.ensures))
 
-pub index-requires : goal.index-requires
-index-requires c =
-    let t = c.args.self.now in
-    omega (arith, long_under t (omega (arith, c.in-Some.ensures.0)), t.bytes.ok.0, c.in-Some.ensures.2)
-
 pub returns-in_default-index : goal.returns-in_default-index
 returns-in_default-index c =
     let t = c.args.self.now in
@@ -25,17 +20,3 @@ returns-in_default-index c =
     let read = get_or_read_under v.items (8 + place) v.len c.index.result.now 0 c.index.ensures (omega (arith, long_under t (omega (arith, h.0)), v.ok.0, h.2)) v.ok.0 in
     let state : get_or v.items (8 + place) 0 ≡ 1 = omega (arith, read, t.states place h.2) in
     (refl, (c.in_ok-ask.ensures.0, h.0, ap (λ x. eqb x 1) (rw h.1 at state)))
-
-pub returns : goal.returns
-returns c =
-    let t = c.args.self.now in
-    let v = t.bytes in
-    let place = c.in-Some.place in
-    let h = c.in-Some.ensures in
-    let long = long_under t (omega (arith, h.0)) in
-    let read = get_or_read_under v.items (8 + place) v.len c.index.result.now 0 c.index.ensures (omega (arith, long, v.ok.0, h.2)) v.ok.0 in
-    let state : get_or v.items (8 + place) 0 ≡ 0 = sym read ∙ c.in-0.is in (
-      (c.in_ok-ask.ensures.0, h.0, ap (λ x. eqb x 1) (rw h.1 at state)),
-      omega (arith, h.1, c.total-total.ensures),
-      omega (arith, long, h.2, c.total-total.ensures),
-    )

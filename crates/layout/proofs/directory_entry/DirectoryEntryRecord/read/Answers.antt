@@ -1,4 +1,4 @@
-use Rattle.std.proofs.Common.{◌-◌, get_or, ap, ◌∙◌, arith}
+use Rattle.std.proofs.Common.{◌≡◌, ℕ, ◌-◌, length, get_or, ap, arith}
 use Rattle.layout.specs.Bytes.{number}
 use Rattle.layout.specs.Directory.{stored_slot}
 use Rattle.layout.specs.Slots.{slot_is}
@@ -8,7 +8,5 @@ pub returns : goal.returns
 unfolding stored_slot number
 returns c =
     let xs = c.args.bytes.now in
-    let a = c.from.ensures ∙ ap (λ n. get_or xs (n - 3) 0) c.requires in
-    let b = c.from-2.ensures ∙ ap (λ n. get_or xs (n - 2) 0) c.requires in
-    let d = c.from-3.ensures ∙ ap (λ n. get_or xs (n - 1) 0) c.requires in
-    slot_is _ _ _ _ c.copy_from_slice.ensures.after (omega arith)
+    let at_end : (k : ℕ) → get_or xs (length xs - k) 0 ≡ get_or xs (32 - k) 0 = λ k. ap (λ n. get_or xs (n - k) 0) c.requires in
+    slot_is _ _ _ _ c.copy_from_slice.ensures.after (omega (arith, c.from_be_bytes.ensures, at_end 3, at_end 2, at_end 1))

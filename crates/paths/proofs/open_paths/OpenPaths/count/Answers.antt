@@ -1,19 +1,14 @@
-use Rattle.std.proofs.Common.{arith}
-use Rattle.std.proofs.lemmas.List.{at_drop_all}
-use Rattle.paths.specs.Paths.{open_count}
-use Rattle.paths.proofs.PathLaws.{count_none, count_some}
+use Rattle.std.proofs.Common.{sym, ◌∙◌, rules}
+use borrow.Author.Tests.{tests}
+use Rattle.std.proofs.lemmas.Iterator.{YieldsList-from_slice}
+use Rattle.std.proofs.lemmas.Iterator.Consumers.{YieldsList-from_filter, count_from_yields_List}
+use Rattle.std.proofs.lemmas.List.Sums.{length-filter}
+use Rattle.std.specs.Option.{is_some}
+use Rattle.paths.proofs.PathLaws.{count_is}
 use Rattle.paths.proofs.open_paths.OpenPaths.count.Goals as goal
-use Rattle.paths.proofs.open_paths.OpenPaths.count.Goals.{in-Some, in_default}
 
-pub loop-k-preserved : goal.loop-k-preserved
-loop-k-preserved c =
-    let self = c.args.self.now in
-    elim c.match-place.branch [
-      | in-Some w ↦ (omega (arith, w.count-is, c.loop-k.invariant.0, count_some self.places c.loop-k.k _ (omega (arith, self.long)) w.in-Some.is), omega (arith, w.count-is, c.loop-k.invariant.1))
-      | in_default w ↦ (omega (arith, w.count-is, c.loop-k.invariant.0, count_none self.places c.loop-k.k (omega (arith, self.long)) w.in_default.is), omega (arith, w.count-is, c.loop-k.invariant.1))
-    ]
-
-pub returns : goal.returns
-returns c =
-    let self = c.args.self.now in
-    omega (arith, c.loop-k.invariant.0, at_drop_all open_count self.places c.loop-k.k (omega (arith, self.long)))
+pub returns-clause-is : goal.returns-clause-is
+returns-clause-is c =
+    let ps = c.args.self.now.places in
+    count_from_yields_List c.filter.result _ c.count.ensures.ran (YieldsList-from_filter _ is_some (YieldsList-from_slice ps cc) c.filter.ensures.closure (λ x r q k. search (rules, tests)))
+    ∙ length-filter is_some ps ∙ sym (count_is ps)

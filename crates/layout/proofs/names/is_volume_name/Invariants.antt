@@ -1,6 +1,0 @@
-use Rattle.std.proofs.Common.{◌≡◌, ℕ, ◌<◌, true, get_or}
-use Rattle.layout.specs.Names.{name_byte}
-use Rattle.layout.proofs.names.is_volume_name.Given as goal
-
-abbrev pub invariant-loop-b : goal.invariant-loop-b
-invariant-loop-b l = (k : ℕ) → k < l.b-index → name_byte (get_or l.name k 0) ≡ true

@@ -1,4 +1,0 @@
-use Rattle.volume.proofs.new_sectors.new_root.Goals as goal
-
-pub returns : goal.returns
-returns c = cc
