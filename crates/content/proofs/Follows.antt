@@ -15,6 +15,11 @@ use Rattle.descriptors.proofs.Cutting.{take_through}
 use Rattle.content.specs.Laws.{ContentLength, ContentWritten, ContentGrown, ContentShrunk, ContentCut, ContentKept, ContentBeside, NeverRefused}
 use Rattle.content.specs.Rows.{sectors, row, Within, Outside, Beside}
 use Rattle.content.proofs.WriteSteps.{same_row}
+use Rattle.std.specs.List.{flat_map}
+
+-- the bytes of one list of sectors and then another
+pub row_append : (f : ℕ → List ℕ) (xs ys : List ℕ) → flat_map f (xs ++ ys) ≡ flat_map f xs ++ flat_map f ys
+row_append f xs ys = flat_map-append f xs ys
 
 -- sectors on the device, each of 256 bytes
 pub row_length : (m : Meaning) (e : List ℕ) → Whole m → Within m e → length (row m e) ≡ length e * 256
@@ -22,7 +27,7 @@ row_length m e whole within = length-row m.sector 256 e (λ i lt. whole (get_or 
 
 -- bytes that lie in the first of two lists of sectors
 pub row_front : (m : Meaning) (e more : List ℕ) (n : ℕ) → n ≤ length (row m e) → take n (row m (e ++ more)) ≡ take n (row m e)
-row_front m e more n le = ap (take n) (flat_map-append m.sector e more) ∙ take-append-le n (row m e) (row m more) le
+row_front m e more n le = ap (take n) (row_append m.sector e more) ∙ take-append-le n (row m e) (row m more) le
 
 -- the first n sectors
 pub row_first : (m : Meaning) (e : List ℕ) (n k : ℕ) → Whole m → Within m e → k ≤ 256 * n → k ≤ 256 * length e → take k (row m (take n e)) ≡ take k (row m e)

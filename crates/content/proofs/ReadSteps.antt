@@ -1,5 +1,5 @@
 -- Bytes read from the sectors of a file into a buffer.
-use Rattle.std.proofs.Common.{◌≡◌, ℕ, zero, suc, ◌+◌, ◌-◌, ◌*◌, ◌/◌, ◌≤◌, List, ◌++◌, length, take, drop, Ok, Err, Result, sym, refl, ap, ◌∙◌, ap₂, arith, length-drop, length-take, take-add}
+use Rattle.std.proofs.Common.{◌≡◌, ℕ, zero, suc, ◌+◌, ◌-◌, ◌*◌, ◌/◌, ◌≤◌, List, ◌++◌, length, take, drop, Ok, Err, Result, sym, refl, ap, ◌∙◌, ap₂, arith, length-drop, length-take, take-add, ◌%◌, ◌<◌, get_or}
 use borrow.Rule.Slice.PartMut.{put_mid}
 use Rattle.std.specs.List.{flat_map}
 use Rattle.std.proofs.lemmas.List.{append_assoc, take-append-drop, take_all, take_at, take-take, drop_at, drop-drop, drop-take, length-take-le}
@@ -40,17 +40,24 @@ read_more xs b₀ b part p d e le is room got =
     let whole : take d (drop p xs) ++ take (e - d) (drop d (drop p xs)) ≡ take e (drop p xs) = sym (take-add d (e - d) (drop p xs)) ∙ ap (λ k. take k (drop p xs)) s in
     ap₂ ◌++◌ front (ap₂ ◌++◌ mid back) ∙ sym (append_assoc (take d (drop p xs)) (take (e - d) (drop d (drop p xs))) (drop e b₀)) ∙ ap (λ l. l ++ drop e b₀) whole
 
--- the same where the part came from its sector
-pub read_turn : (m : Meaning) (e b₀ b got : List ℕ) (p n k k' : ℕ) (part : FilePart) → IsPart e p n k part → k' ≡ part.bytes.end → n ≤ length b → Wide m.sector 256 e → b ≡ take k (drop p (row m e)) ++ drop k b₀ → got ≡ take (length (take (part.bytes.end - part.bytes.start) (drop part.bytes.start b))) (drop part.from (m.sector part.lsn)) → put_mid part.bytes.start (part.bytes.end - part.bytes.start) b got ≡ take k' (drop p (row m e)) ++ drop k' b₀
-read_turn m e b₀ b got p n k k' part is next fits wide was have =
+-- the same where the part came from the sector in which the byte p + d lies
+pub read_turn : (f : ℕ → List ℕ) (e b₀ b part : List ℕ) (p d end lsn n : ℕ) → Wide f 256 e → (p + d) / 256 < length e → lsn ≡ get_or e ((p + d) / 256) 0 → d ≤ end → end ≤ d + (256 - (p + d) % 256) → b ≡ take d (drop p (flat_map f e)) ++ drop d b₀ → n ≡ end - d → part ≡ take n (drop ((p + d) % 256) (f lsn)) → put_mid d (end - d) b part ≡ take end (drop p (flat_map f e)) ++ drop end b₀
+read_turn f e b₀ b part p d end lsn n wide h is le fits was ne got =
+    let cut : (p + d) / 256 * 256 + (p + d) % 256 ≡ p + d = omega arith in
+    read_more (flat_map f e) b₀ b part p d end le was (omega (arith, length-row f 256 e wide))
+    (got ∙ ap₂ (λ k l. take k (drop ((p + d) % 256) (f l))) ne is
+    ∙ sym (block f 256 e ((p + d) / 256) ((p + d) % 256) (end - d) wide h (omega arith))
+    ∙ ap (λ k. take (end - d) (drop k (flat_map f e))) cut)
+
+-- the same of a part as the parts of a file's bytes have it
+pub read_part_turn : (m : Meaning) (e b₀ b got : List ℕ) (p n k k' : ℕ) (part : FilePart) → IsPart e p n k part → k' ≡ part.bytes.end → n ≤ length b → Wide m.sector 256 e → b ≡ take k (drop p (row m e)) ++ drop k b₀ → got ≡ take (length (take (part.bytes.end - part.bytes.start) (drop part.bytes.start b))) (drop part.from (m.sector part.lsn)) → put_mid part.bytes.start (part.bytes.end - part.bytes.start) b got ≡ take k' (drop p (row m e)) ++ drop k' b₀
+read_part_turn m e b₀ b got p n k k' part is next fits wide was have =
     let at = part_sector e p n k part is in
-    let cut : (p + k) / 256 * 256 + part.from ≡ p + k = omega (arith, is.from) in
-    let long : length (take (part.bytes.end - part.bytes.start) (drop part.bytes.start b)) ≡ part.bytes.end - k = omega (arith, is.start, is.end, length-take (part.bytes.end - part.bytes.start) (drop part.bytes.start b), length-drop part.bytes.start b) in
+    let wanted : ℕ = length (take (part.bytes.end - part.bytes.start) (drop part.bytes.start b)) in
+    let long : wanted ≡ part.bytes.end - k = omega (arith, is.start, is.end, length-take (part.bytes.end - part.bytes.start) (drop part.bytes.start b), length-drop part.bytes.start b) in
     rw (is.start, next)
-    (read_more (row m e) b₀ b got p k part.bytes.end (omega (arith, is.end)) was (omega (arith, length-row m.sector 256 e wide, at.0))
-    (have ∙ ap₂ (λ j l. take j (drop part.from (m.sector l))) long at.1
-    ∙ sym (block m.sector 256 e ((p + k) / 256) part.from (part.bytes.end - k) wide at.0 (omega (arith, is.from, is.end)))
-    ∙ ap (λ j. take (part.bytes.end - k) (drop j (row m e))) cut))
+    (read_turn m.sector e b₀ b got p k part.bytes.end part.lsn wanted wide at.0 at.1 (omega (arith, is.end)) (omega (arith, is.from, is.end)) was long
+    (have ∙ ap (λ o. take wanted (drop o (m.sector part.lsn))) is.from))
 
 -- a part that is put back as it was
 pub put_same : (d k : ℕ) (b part : List ℕ) → part ≡ take k (drop d b) → put_mid d k b part ≡ b

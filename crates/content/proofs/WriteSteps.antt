@@ -1,5 +1,5 @@
 -- Bytes written over the sectors of a file.
-use Rattle.std.proofs.Common.{◌≡◌, ℕ, zero, suc, ◌+◌, ◌-◌, ◌*◌, ◌/◌, ◌<◌, ◌≤◌, List, [], ◌∷◌, ◌++◌, length, get_or, take, drop, Ok, Err, Result, sym, refl, ap, ◌∙◌, ap₂, inl, inr, suc-mul, zero-add, zero-mul, arith, length-drop, take-add}
+use Rattle.std.proofs.Common.{◌≡◌, ℕ, zero, suc, ◌+◌, ◌-◌, ◌*◌, ◌/◌, ◌<◌, ◌≤◌, List, [], ◌∷◌, ◌++◌, length, get_or, take, drop, Ok, Err, Result, sym, refl, ap, ◌∙◌, ap₂, inl, inr, suc-mul, zero-add, zero-mul, arith, length-drop, take-add, ◌%◌, subst}
 use lib.Seq.{take-append-add, drop-append-add}
 use Rattle.std.specs.List.{flat_map}
 use Rattle.std.proofs.lemmas.List.{append-nil, append_assoc, take-append-le, drop-append-le, drop_all, length-take-le}
@@ -95,55 +95,55 @@ module _ (m₀ m m' : Meaning) (e bs : List ℕ) (p d : ℕ) (w : Written m₀ m
         is = λ whole within distinct. same_row m.sector m'.sector e (λ j h. k.2 (get_or e j 0) (on_both _ (within j h)) tt) ∙ w.is whole within distinct;
       }
 
-  -- a turn that wrote a part of its sector
-  module _ (d' : ℕ) (part : FilePart) (is : IsPart e p (length bs) d part) (next : d' ≡ part.bytes.end) (done : PartDone m m' part.lsn part.from (take (part.bytes.end - part.bytes.start) (drop part.bytes.start bs))) where
-    piece : List ℕ
-    piece = take (part.bytes.end - part.bytes.start) (drop part.bytes.start bs)
-
-    there : ((p + d) / 256 < length e) × (part.lsn ≡ get_or e ((p + d) / 256) 0)
-    there = part_sector e p (length bs) d part is
-
+  -- a turn that wrote a part of the sector in which the byte p + d lies
+  module _ (end lsn : ℕ) (part : List ℕ) (h : (p + d) / 256 < length e) (at : lsn ≡ get_or e ((p + d) / 256) 0) (le : d < end) (top : end ≤ length bs) (fits : end ≤ d + (256 - (p + d) % 256)) (got : part ≡ take (end - d) (drop d bs)) (done : PartDone m m' lsn ((p + d) % 256) part) where
     long_before : length (take d bs) ≡ d
-    long_before = length-take-le d bs (omega (arith, is.less))
+    long_before = length-take-le d bs (omega arith)
 
-    long_after : length (take d' bs) ≡ d'
-    long_after = length-take-le d' bs (omega (arith, is.less, is.end))
+    long_after : length (take end bs) ≡ end
+    long_after = length-take-le end bs top
 
-    long_piece : length piece ≡ d' - d
-    unfolding piece
-    long_piece = length-take-le (part.bytes.end - part.bytes.start) (drop part.bytes.start bs) (simp length-drop (omega (arith, is.start, is.end))) ∙ omega (arith, is.start)
+    long_part : length part ≡ end - d
+    long_part = ap length got ∙ length-take-le (end - d) (drop d bs) (simp length-drop (omega arith))
 
-    turn_kept : Kept (Beside e p (length (take d' bs))) m₀ m'
+    turn_kept : Kept (Beside e p (length (take end bs))) m₀ m'
     turn_kept = (
       done.kept.0 ∙ w.kept.0,
       λ j lt. done.kept.1 j (on_both j lt) ∙ w.kept.1 j lt,
       λ j lt out.
-          done.kept.2 j (on_both j lt) (λ z. out (p + d) (omega arith) (omega (arith, long_after, is.less, is.from, is.end)) (z ∙ there.1))
-          ∙ w.kept.2 j lt (λ i lo hi. out i lo (omega (arith, long_before, long_after, is.end))),
+          done.kept.2 j (on_both j lt) (λ z. out (p + d) (omega arith) (omega (arith, long_after)) (z ∙ at))
+          ∙ w.kept.2 j lt (λ i lo hi. out i lo (omega (arith, long_before, long_after))),
     )
 
     turn_whole : Whole m₀ → Whole m'
-    turn_whole all l lt = let low : l < m.count = omega (arith, done.kept.0) in elim (cases_eq l part.lsn) [
+    turn_whole all l lt = let low : l < m.count = omega (arith, done.kept.0) in elim (cases_eq l lsn) [
       | inl same ↦ ap (λ k. length (m'.sector k)) same ∙ done.long
       | inr other ↦ ap length (done.kept.2 l low other) ∙ w.whole all l low
     ]
 
-    turn_is : Whole m₀ → Within m₀ e → Distinct e → row m' e ≡ over p (take d' bs) (row m₀ e)
-    unfolding piece
+    turn_is : Whole m₀ → Within m₀ e → Distinct e → row m' e ≡ over p (take end bs) (row m₀ e)
     turn_is whole within distinct =
-        let cut : (p + d) / 256 * 256 + part.from ≡ p + d = omega (arith, is.from) in
+        let cut : (p + d) / 256 * 256 + (p + d) % 256 ≡ p + d = omega arith in
+        let s : d + (end - d) ≡ end = omega arith in
         let all : Whole m = w.whole whole in
         let long : length (row m₀ e) ≡ length e * 256 = length-row m₀.sector 256 e (λ i lt. whole (get_or e i 0) (within i lt)) in
-        let one : row m' e ≡ over ((p + d) / 256 * 256 + part.from) piece (row m e) =
-        put_block m.sector m'.sector 256 e ((p + d) / 256) part.from piece
-        (λ i lt. all (get_or e i 0) (on_both _ (within i lt))) there.0 (omega (arith, long_piece, is.from, is.end))
-        (ap m'.sector (sym there.1) ∙ done.put all ∙ ap (λ l. over part.from piece (m.sector l)) there.1)
-        (λ j lt ne. done.kept.2 (get_or e j 0) (on_both _ (within j lt)) (λ z. ne (distinct j ((p + d) / 256) lt there.0 (z ∙ there.1)))) in
-        let both : take d bs ++ piece ≡ take d' bs =
-        rw (is.start, ← next) (sym (take-add d (d' - d) bs) ∙ ap (λ k. take k bs) (omega (arith, is.end))) in
-        one ∙ ap₂ (λ q xs. over q piece xs) cut (w.is whole within distinct)
-        ∙ over_over p (p + d) (take d bs) piece (row m₀ e) (omega (arith, long_before)) (omega (arith, long, long_piece, there.0, is.from, is.end))
-        ∙ ap (λ l. over p l (row m₀ e)) both
+        let one : row m' e ≡ over ((p + d) / 256 * 256 + (p + d) % 256) part (row m e) =
+        put_block m.sector m'.sector 256 e ((p + d) / 256) ((p + d) % 256) part
+        (λ i lt. all (get_or e i 0) (on_both _ (within i lt))) h (omega (arith, long_part))
+        (ap m'.sector (sym at) ∙ done.put all ∙ ap (λ l. over ((p + d) % 256) part (m.sector l)) at)
+        (λ j lt ne. done.kept.2 (get_or e j 0) (on_both _ (within j lt)) (λ z. ne (distinct j ((p + d) / 256) lt h (z ∙ at)))) in
+        one ∙ ap₂ (λ q xs. over q part xs) cut (w.is whole within distinct)
+        ∙ over_over p (p + d) (take d bs) part (row m₀ e) (omega (arith, long_before)) (omega (arith, long))
+        ∙ ap (λ l. over p l (row m₀ e)) (ap (λ l. take d bs ++ l) got ∙ sym (take-add d (end - d) bs) ∙ ap (λ k. take k bs) s)
 
-    pub write_turn : Written m₀ m' e p (take d' bs)
+    pub write_turn : Written m₀ m' e p (take end bs)
     write_turn = record { kept = turn_kept; whole = turn_whole; is = turn_is }
+
+  -- the same of a part as the parts of a file's bytes have it
+  pub write_part_turn : (d' : ℕ) (part : FilePart) → IsPart e p (length bs) d part → d' ≡ part.bytes.end → PartDone m m' part.lsn part.from (take (part.bytes.end - part.bytes.start) (drop part.bytes.start bs)) → Written m₀ m' e p (take d' bs)
+  write_part_turn d' part is next done =
+      let at = part_sector e p (length bs) d part is in
+      let piece : List ℕ = take (part.bytes.end - part.bytes.start) (drop part.bytes.start bs) in
+      let same : piece ≡ take (d' - d) (drop d bs) = ap₂ (λ (a b : ℕ). take (a - b) (drop b bs)) (sym next) is.start in
+      write_turn d' part.lsn piece at.0 at.1 (omega (arith, is.less, is.from, is.end)) (omega (arith, is.less, is.end)) (omega (arith, is.from, is.end)) same
+      (subst (λ (o : ℕ). PartDone m m' part.lsn o piece) is.from done)

@@ -5,11 +5,12 @@ use Rattle.layout.specs.Bytes.{bytes, over}
 use Rattle.layout.specs.declared.segment.Segment.{Segment}
 use Rattle.layout.specs.Digits.{length-bytes, number_over, number_below}
 use Rattle.layout.specs.Overs.{length_over}
-use Rattle.descriptors.specs.Created.{new_shown}
+use Rattle.descriptors.specs.Created.{new_shown, new_descriptor}
 use Rattle.descriptors.specs.declared.heading.Heading.{Heading}
 use Rattle.descriptors.specs.Shown.{shown, with_segments}
 use Rattle.descriptors.proofs.Laid.{part_below, part_in}
-use Rattle.descriptors.proofs.Showings.{shown_by}
+use Rattle.descriptors.proofs.Showings.{shown_by, segments_shown}
+use Rattle.descriptors.specs.Stored.{AllStorable}
 
 -- a number of one byte
 pub one_byte : (n : ℕ) → n < 256 → n ∷ [] ≡ bytes 1 n
@@ -76,8 +77,12 @@ module _ (h : Heading) (n : ℕ) (ss : List Segment) (byte : h.attribute < 256) 
   f6 : 13 + length h.created ≤ length d5
   f6 = omega (arith, l5)
 
-  pub new_shows : with_segments ss (shown d6) ≡ new_shown h n ss
-  new_shows =
+  pub l6 : length d6 ≡ 256
+  l6 = length_over 13 h.created d5 f6 ∙ l5
+
+  -- its fields, whatever segments are laid over its entries
+  pub fields_show : with_segments ss (shown d6) ≡ new_shown h n ss
+  fields_show =
       shown_by (with_segments ss (shown d6)) (new_shown h n ss)
       (number_below 13 h.created d5 f6 0 1 (omega arith)
       ∙ number_below 9 (bytes 4 n) d4 f5 0 1 (omega arith)
@@ -101,3 +106,6 @@ module _ (h : Heading) (n : ℕ) (ss : List Segment) (byte : h.attribute < 256) 
       ∙ number_over 9 (bytes 4 n) d4 f5 4 n refl (omega arith))
       (part_in 13 h.created d5 f6 3 three)
       refl
+
+  pub new_shows : length ss ≤ 48 → AllStorable ss → shown (new_descriptor h n ss) ≡ new_shown h n ss
+  new_shows few all = segments_shown d6 l6 ss few all ∙ fields_show

@@ -1,13 +1,15 @@
 -- A segment list cut behind its first n sectors: what stays, what goes, and that this is all.
-use Rattle.std.proofs.Common.{◌≡◌, ℕ, zero, suc, ◌+◌, ◌-◌, ◌<◌, ◌≤◌, min, List, [], ◌∷◌, ◌++◌, length, take, drop, sym, refl, ap, ◌∙◌, ap₂, inl, inr, arith, length-append, ne_eqb}
+use Rattle.std.proofs.Common.{◌≡◌, ℕ, zero, suc, ◌+◌, ◌-◌, ◌<◌, ◌≤◌, min, List, [], ◌∷◌, ◌++◌, length, take, drop, sym, refl, ap, ◌∙◌, ap₂, inl, inr, arith, length-append, ne_eqb, get_or}
 use lib.Seq.{take-nil, drop-nil}
 use Rattle.std.specs.List.{AllByRecursion}
-use Rattle.std.proofs.lemmas.List.{take-append-drop}
+use Rattle.std.proofs.ByRecursion.{All-get_or}
+use Rattle.std.proofs.lemmas.List.{take-append-drop, append_assoc, drop_more}
 use Rattle.std.proofs.lemmas.Bool.{cases_eq, cases_lt, lt-ltb, le-ltb}
 use Rattle.layout.specs.Descriptor.{upto, extent}
 use Rattle.layout.specs.declared.segment.Segment.{Segment}
 use Rattle.descriptors.specs.Cuts.{kept, freed}
-use Rattle.descriptors.specs.Stored.{AllStorable}
+use Rattle.descriptors.specs.Lists.{nowhere}
+use Rattle.descriptors.specs.Stored.{AllStorable, Storable}
 use Rattle.descriptors.proofs.Extents.{length-upto}
 
 -- the first n of one list and then another, and those behind them
@@ -112,3 +114,30 @@ kept_all n (s ∷ ss) all le =
     let more = held_more s ss in
     let whole : min s.len n ≡ s.len = omega arith in
     kept_more n s ss (λ z. omega (arith, all.0.some)) ∙ ap₂ ◌∷◌ (ap make whole) (kept_all (n - s.len) ss all.1 (omega arith))
+
+-- the k-th segment is s, and so the rest of the list begins with it
+module _ (ss : List Segment) (k : ℕ) (s : Segment) (lt : k < length ss) (is : s ≡ get_or ss k nowhere) where
+  rest_is : drop k ss ≡ s ∷ drop (k + 1) ss
+  rest_is = drop_more ss k nowhere lt ∙ ap (λ (x : Segment). x ∷ drop (k + 1) ss) (sym is)
+
+  pub held_step : length (extent (drop k ss)) ≡ s.len + length (extent (drop (k + 1) ss))
+  held_step = ap (λ xs. length (extent xs)) rest_is ∙ held_more s (drop (k + 1) ss)
+
+  pub storable_at : AllStorable ss → Storable s
+  storable_at all = rw is (All-get_or Storable ss k nowhere lt all)
+
+  module _ (done : List Segment) (left : ℕ) where
+    pub kept_step : (left ≡ 0 → ⊥) → (done ++ record { start = s.start; len = min s.len left } ∷ []) ++ kept (left - s.len) (drop (k + 1) ss) ≡ done ++ kept left (drop k ss)
+    kept_step some =
+        append_assoc done _ (kept (left - s.len) (drop (k + 1) ss))
+        ∙ ap (λ (xs : List Segment). done ++ xs) (sym (ap (kept left) rest_is ∙ kept_more left s (drop (k + 1) ss) some))
+
+    pub part_step : left < s.len → (done ++ record { start = s.start + left; len = s.len - left } ∷ []) ++ freed (left - s.len) (drop (k + 1) ss) ≡ done ++ freed left (drop k ss)
+    part_step low =
+        let none : left - s.len ≡ 0 = omega arith in
+        append_assoc done _ (freed (left - s.len) (drop (k + 1) ss))
+        ∙ ap (λ (n : ℕ). done ++ record { start = s.start + left; len = s.len - left } ∷ freed n (drop (k + 1) ss)) none
+        ∙ ap (λ (xs : List Segment). done ++ xs) (sym (ap (freed left) rest_is ∙ freed_part left s (drop (k + 1) ss) low))
+
+    pub past_step : s.len ≤ left → done ++ freed (left - s.len) (drop (k + 1) ss) ≡ done ++ freed left (drop k ss)
+    past_step high = ap (λ (xs : List Segment). done ++ xs) (sym (ap (freed left) rest_is ∙ freed_past left s (drop (k + 1) ss) high))

@@ -1,9 +1,10 @@
 -- The sectors of a segment list, from an entry on.
-use Rattle.std.proofs.Common.{◌≡◌, ℕ, zero, suc, ◌+◌, ◌-◌, ◌<◌, ◌≤◌, ◌≢◌, List, [], ◌∷◌, ◌++◌, length, Some, None, sym, refl, ap, ◌∙◌, inl, inr, arith, eq-eqb, ne_eqb}
+use Rattle.std.proofs.Common.{◌≡◌, ℕ, zero, suc, ◌+◌, ◌-◌, ◌<◌, ◌≤◌, ◌≢◌, List, [], ◌∷◌, ◌++◌, length, Some, None, sym, refl, ap, ◌∙◌, inl, inr, arith, eq-eqb, ne_eqb, length-append}
 use Rattle.std.specs.List.{slice_get}
-use Rattle.std.proofs.lemmas.Bool.{cases_eq}
+use Rattle.std.proofs.lemmas.Bool.{cases_eq, cases_lt}
 use Rattle.layout.specs.Descriptor.{segment, used, upto, extent}
 use Rattle.layout.specs.declared.segment.Segment.{Segment}
+use Rattle.descriptors.specs.Entries.{Used}
 
 -- the used entries from the entry k on
 abbrev pub rest : List ℕ → ℕ → List Segment
@@ -14,18 +15,18 @@ unfolding upto
 length-upto s zero = refl
 length-upto s (suc n) = ap suc (length-upto (s + 1) n)
 
-nth-upto : (s n i : ℕ) → i < n → slice_get (upto s n) i ≡ Some (s + i)
+pub nth-upto : (s n i : ℕ) → i < n → slice_get (upto s n) i ≡ Some (s + i)
 unfolding upto
 nth-upto s zero i h = absurd (omega arith)
 nth-upto s (suc n) zero h = ap Some (omega arith)
 nth-upto s (suc n) (suc i) h = nth-upto (s + 1) n i (omega arith) ∙ ap Some (omega arith)
 
-nth_left : (xs ys : List ℕ) (i : ℕ) → i < length xs → slice_get (xs ++ ys) i ≡ slice_get xs i
+pub nth_left : (xs ys : List ℕ) (i : ℕ) → i < length xs → slice_get (xs ++ ys) i ≡ slice_get xs i
 nth_left [] ys i h = absurd (omega arith)
 nth_left (x ∷ xs) ys zero h = refl
 nth_left (x ∷ xs) ys (suc i) h = nth_left xs ys i (omega arith)
 
-nth_right : (xs ys : List ℕ) (i : ℕ) → length xs ≤ i → slice_get (xs ++ ys) i ≡ slice_get ys (i - length xs)
+pub nth_right : (xs ys : List ℕ) (i : ℕ) → length xs ≤ i → slice_get (xs ++ ys) i ≡ slice_get ys (i - length xs)
 nth_right [] ys i h = ap (slice_get ys) (omega arith)
 nth_right (x ∷ xs) ys zero h = absurd (omega arith)
 nth_right (x ∷ xs) ys (suc i) h = nth_right xs ys i (omega arith) ∙ ap (slice_get ys) (omega arith)
@@ -46,12 +47,35 @@ pub rest_all : (s : List ℕ) (k : ℕ) → k ≡ 48 → rest s k ≡ []
 unfolding used
 rest_all s k e = rw e
 
+-- behind the last used entry there is none
+pub rest_end : (s : List ℕ) (n : ℕ) → Used s n → rest s n ≡ []
+rest_end s n u = elim (cases_lt n 48) [
+  | inl lt ↦ rest_none s n lt (u.first lt)
+  | inr le ↦ rest_all s n (omega (arith, u.most))
+]
+
 module _ (s : List ℕ) (k : ℕ) (g : Segment) (e : g ≡ segment s k) (h : k < 48) (ne : g.len ≡ 0 → ⊥) where
   step : rest s k ≡ segment s k ∷ rest s (k + 1)
   step = rest_more s k h (λ z. ne (ap (λ (x : Segment). x.len) e ∙ z))
 
   pub split : extent (rest s k) ≡ upto g.start g.len ++ extent (rest s (k + 1))
   split = ap extent step ∙ ap (λ (x : Segment). upto x.start x.len ++ extent (rest s (k + 1))) (sym e)
+
+  pub more_held : length (extent (rest s k)) ≡ g.len + length (extent (rest s (k + 1)))
+  more_held =
+      ap length split ∙ length-append (upto g.start g.len) (extent (rest s (k + 1))) ∙ ap (λ n. n + length (extent (rest s (k + 1)))) (length-upto g.start g.len)
+
+  pub here : (i : ℕ) → i < g.len → slice_get (extent (rest s k)) i ≡ Some (g.start + i)
+  here i lt =
+      ap (λ l. slice_get l i) split
+      ∙ nth_left (upto g.start g.len) (extent (rest s (k + 1))) i (omega (arith, length-upto g.start g.len))
+      ∙ nth-upto g.start g.len i lt
+
+  pub past : (i : ℕ) → g.len ≤ i → slice_get (extent (rest s k)) i ≡ slice_get (extent (rest s (k + 1))) (i - g.len)
+  past i le =
+      ap (λ l. slice_get l i) split
+      ∙ nth_right (upto g.start g.len) (extent (rest s (k + 1))) i (omega (arith, length-upto g.start g.len))
+      ∙ ap (λ n. slice_get (extent (rest s (k + 1))) (i - n)) (length-upto g.start g.len)
 
 -- the i-th sector is in the first segment, or in those behind it
 module _ (g : Segment) (ss : List Segment) (i : ℕ) where

@@ -1,5 +1,5 @@
 -- A segment list that grows at its end, and its sectors.
-use Rattle.std.proofs.Common.{◌≡◌, ℕ, zero, suc, ◌+◌, ◌-◌, ◌<◌, List, [], ◌∷◌, ◌++◌, length, get_or, sym, ap, ◌∙◌, ap₂, arith}
+use Rattle.std.proofs.Common.{◌≡◌, ℕ, zero, suc, ◌+◌, ◌-◌, ◌<◌, List, [], ◌∷◌, ◌++◌, length, get_or, sym, ap, ◌∙◌, ap₂, arith, refl}
 use Rattle.std.proofs.lemmas.List.{append-nil, append_assoc}
 use Rattle.layout.specs.Descriptor.{upto, extent}
 use Rattle.layout.specs.declared.segment.Segment.{Segment}
@@ -14,6 +14,14 @@ upto_add s (suc a) b =
     let one : suc a + b ≡ suc (a + b) = omega arith in
     let next : s + 1 + a ≡ s + suc a = omega arith in
     rw one (ap (λ l. s ∷ l) (upto_add (s + 1) a b ∙ ap (λ k. upto (s + 1) a ++ upto k b) next))
+
+pub extent-append : (ss ts : List Segment) → extent (ss ++ ts) ≡ extent ss ++ extent ts
+extent-append [] ts = refl
+extent-append (s ∷ ss) ts = ap (λ l. upto s.start s.len ++ l) (extent-append ss ts) ∙ sym (append_assoc (upto s.start s.len) (extent ss) (extent ts))
+
+-- a segment more
+pub extent_push : (ss : List Segment) (s : Segment) → extent (ss ++ s ∷ []) ≡ extent ss ++ upto s.start s.len
+extent_push ss s = extent-append ss (s ∷ []) ∙ ap (λ l. extent ss ++ l) (append-nil (upto s.start s.len))
 
 -- the last of a list is that of its rest
 last_behind : (s t : Segment) (ss : List Segment) → last_of (s ∷ t ∷ ss) ≡ last_of (t ∷ ss)

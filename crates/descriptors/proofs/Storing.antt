@@ -1,8 +1,8 @@
 -- A segment list in the bytes of a descriptor: written entry by entry, and read back.
-use Rattle.std.proofs.Common.{◌≡◌, ℕ, zero, suc, ◌+◌, ◌-◌, ◌*◌, ◌^◌, ◌<◌, ◌≤◌, List, [], ◌∷◌, length, get_or, take, replicate, sym, refl, ap, ◌∙◌, ap₂, inl, inr, arith, rules, length-append, eq-eqb, ne_eqb}
+use Rattle.std.proofs.Common.{◌≡◌, ℕ, zero, suc, ◌+◌, ◌-◌, ◌*◌, ◌^◌, ◌<◌, ◌≤◌, List, [], ◌∷◌, length, get_or, take, replicate, sym, refl, ap, ◌∙◌, ap₂, inl, inr, arith, rules, length-append, eq-eqb, ne_eqb, ◌++◌}
 use Rattle.std.specs.List.{flat_map}
 use Rattle.std.proofs.ByRecursion.{All-get_or}
-use Rattle.std.proofs.lemmas.List.{flat_map_more, take_more, length-take-le, length-replicate, get_or_append_left, get_or-append_right, get_or-replicate, get_or_past, get_or-drop}
+use Rattle.std.proofs.lemmas.List.{flat_map_more, take_more, length-take-le, length-replicate, get_or_append_left, get_or-append_right, get_or-replicate, get_or_past, get_or-drop, append_assoc, length_push}
 use Rattle.std.proofs.lemmas.List.Concat.{get_or-flat_map}
 use Rattle.std.proofs.lemmas.Bool.{cases_lt}
 use Rattle.layout.specs.Bytes.{number, bytes, over}
@@ -11,8 +11,10 @@ use Rattle.layout.specs.declared.segment.Segment.{Segment}
 use Rattle.layout.specs.Overs.{over_in, over_over}
 use Rattle.layout.proofs.Segments.{length-segment, segment_same}
 use Rattle.descriptors.specs.Lists.{nowhere}
+use Rattle.descriptors.specs.Padded.{IsPadded, length_listed}
 use Rattle.descriptors.specs.Shown.{SameEntries, TidyEntries}
 use Rattle.descriptors.specs.Stored.{Storable, AllStorable, entries_of, stored}
+use Rattle.descriptors.proofs.Extents.{rest, rest_more}
 
 pub length_joined : (ss : List Segment) → length (flat_map segment_bytes ss) ≡ length ss * 5
 length_joined [] = refl
@@ -110,3 +112,17 @@ entry_more es k xs ys long lt wide so_far =
 -- a list of entries stays tidy while they stay
 pub tidy_same : (s s' : List ℕ) → SameEntries s s' → TidyEntries s → TidyEntries s'
 tidy_same s s' same tidy j k le lt none = same k lt ∙ tidy j k le lt (sym (ap (λ (g : Segment). g.len) (same j (omega arith))) ∙ none)
+
+-- one used entry more is read
+pub read_more : (s : List ℕ) (k : ℕ) (g : Segment) (ss ss' : List Segment) → k < 48 → g ≡ segment s k → (g.len ≡ 0 → ⊥) → ss' ≡ ss ++ g ∷ [] → ss ++ rest s k ≡ segments s → ss' ++ rest s (k + 1) ≡ segments s
+read_more s k g ss ss' low is some pushed so_far =
+    let more : rest s k ≡ g ∷ rest s (k + 1) = rest_more s k low (λ z. some (ap (λ (x : Segment). x.len) is ∙ z)) ∙ ap (λ (x : Segment). x ∷ rest s (k + 1)) (sym is) in
+    ap (λ (xs : List Segment). xs ++ rest s (k + 1)) pushed ∙ append_assoc ss (g ∷ []) (rest s (k + 1)) ∙ ap (λ (xs : List Segment). ss ++ xs) (sym more) ∙ so_far
+
+-- a list in memory has at most 48 segments
+pub listed_few : (items : List Segment) (count : ℕ) → IsPadded items count → length (take count items) ≤ 48
+listed_few items count h = omega (arith, length_listed items count h, h.few)
+
+-- a list with one segment more
+pub pushed_length : (ss ss' : List Segment) (g : Segment) → ss' ≡ ss ++ g ∷ [] → length ss' ≡ length ss + 1
+pushed_length ss ss' g pushed = ap length pushed ∙ length_push ss g

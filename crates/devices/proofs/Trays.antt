@@ -80,3 +80,15 @@ sector_fits xs g l e lt =
 module _ (xs ys : List ℕ) (n : ℕ) (front : take (8 + n) ys ≡ take (8 + n) xs) where
   pub front_at : (i : ℕ) → i < 8 + n → get_or ys i 0 ≡ get_or xs i 0
   front_at i h = sym (get_or-take (8 + n) ys i 0 h) ∙ ap (λ l. get_or l i 0) front ∙ get_or-take (8 + n) xs i 0 h
+
+  pub shape_stays : (g : Geometry) → ShapeOf xs g → ShapeOf ys g
+  shape_stays g h =
+      let a = front_at 0 (omega arith) in
+      let b = front_at 1 (omega arith) in
+      (omega (arith, a, b, h.0), h.1 ∙ sym (front_at 2 (omega arith)), h.2 ∙ sym (front_at 3 (omega arith)), h.3 ∙ sym (front_at 4 (omega arith)))
+
+  pub spare_stays : SpareRight xs → SpareRight ys
+  spare_stays h = (front_at 5 (omega arith) ∙ h.0, front_at 6 (omega arith) ∙ h.1, front_at 7 (omega arith) ∙ h.2)
+
+  pub length_stays : (g : Geometry) → ShapeOf xs g → length ys ≡ length xs → LengthRight xs → LengthRight ys
+  length_stays g h e long = omega (arith, total_is xs g h, total_is ys g (shape_stays g h))

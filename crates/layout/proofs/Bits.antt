@@ -10,7 +10,7 @@ one true = omega arith
 one false = omega arith
 
 -- the bit p of n packed ones
-packed_bit : (f : ℕ → Bool) (k n p : ℕ) → p < n → packed f k n / 2 ^ (n - 1 - p) % 2 ≡ cond {A = ℕ} (f (k + p)) 1 0
+pub packed_bit : (f : ℕ → Bool) (k n p : ℕ) → p < n → packed f k n / 2 ^ (n - 1 - p) % 2 ≡ cond {A = ℕ} (f (k + p)) 1 0
 unfolding packed
 packed_bit f k zero p lt = absurd (omega arith)
 packed_bit f k (suc n) p lt = elim (cases_eq p n) [
@@ -29,14 +29,14 @@ test true = refl
 test false = refl
 
 -- a byte of eight bits
-byte_bit : (f : ℕ → Bool) (k p : ℕ) → p < 8 → bit_at (packed f k 8) p ≡ f (k + p)
+pub byte_bit : (f : ℕ → Bool) (k p : ℕ) → p < 8 → bit_at (packed f k 8) p ≡ f (k + p)
 unfolding bit_at
 byte_bit f k p lt =
     let z : 8 - 1 - p ≡ 7 - p = omega arith in
     ap (λ x. eqb x 1) (rw z at (packed_bit f k 8 p lt)) ∙ test (f (k + p))
 
 -- a sector of the map
-sector_bit : (f : ℕ → Bool) (j i : ℕ) → i < 2048 → bit_of (map_sector f j) i ≡ f (j * 2048 + i)
+pub sector_bit : (f : ℕ → Bool) (j i : ℕ) → i < 2048 → bit_of (map_sector f j) i ≡ f (j * 2048 + i)
 sector_bit f j i lt =
     let at : j * 2048 + i / 8 * 8 + i % 8 ≡ j * 2048 + i = omega arith in
     ap (λ b. bit_at b (i % 8)) (get_or-map-range_with_len (λ n. packed f (j * 2048 + n * 8) 8) 0 256 (i / 8) (i / 8) 0 (omega arith) (omega arith))

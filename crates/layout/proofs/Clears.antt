@@ -1,8 +1,17 @@
 -- The count of clear sectors, one sector on.
-use Rattle.std.proofs.Common.{◌≡◌, ℕ, zero, suc, ◌+◌, ◌*◌, ◌/◌, ◌%◌, ◌<◌, ◌≤◌, Bool, true, false, not, cond, List, map, refl, sym, ap, ◌∙◌, ap₂, map-id, add-zero, add-suc, arith}
+use Rattle.std.proofs.Common.{◌≡◌, ℕ, zero, suc, ◌+◌, ◌*◌, ◌/◌, ◌%◌, ◌<◌, ◌≤◌, Bool, true, false, not, cond, List, map, refl, sym, ap, ◌∙◌, ap₂, map-id, add-zero, add-suc, arith, add-one}
 use Rattle.std.proofs.lemmas.List.FromFn.{sum_by-map-range_with_len_more}
 use Rattle.std.specs.List.{range_with_len, count_by}
 use Rattle.layout.specs.Map.{bit_of, taken, clear_below}
+
+pub clear_more : (takes : ℕ → Bool) (n : ℕ) (b : Bool) → b ≡ takes n → clear_below takes (n + 1) ≡ clear_below takes n + cond {A = ℕ} b 0 1
+clear_more takes n b e = rw add-one (ap (λ v. clear_below takes n + cond {A = ℕ} v 0 1) (sym e))
+
+pub clear_set : (takes : ℕ → Bool) (n : ℕ) → true ≡ takes n → clear_below takes (n + 1) ≡ clear_below takes n
+clear_set takes n e = omega (arith, clear_more takes n true e)
+
+pub clear_unset : (takes : ℕ → Bool) (n : ℕ) → false ≡ takes n → clear_below takes (n + 1) ≡ clear_below takes n + 1
+clear_unset takes n e = omega (arith, clear_more takes n false e)
 
 -- the count is settled by the bits
 pub clear_same : (f g : ℕ → Bool) (n : ℕ) → ((i : ℕ) → i < n → f i ≡ g i) → clear_below f n ≡ clear_below g n
@@ -11,7 +20,7 @@ clear_same f g (suc n) h =
     ap₂ (λ (c : ℕ) (b : Bool). c + cond {A = ℕ} b 0 1) (clear_same f g n (λ i lt. h i (omega arith))) (h n (omega arith))
 
 -- the count over one stretch and then another
-clear_then : (f : ℕ → Bool) (a n : ℕ) → clear_below f (a + n) ≡ clear_below f a + clear_below (λ i. f (a + i)) n
+pub clear_then : (f : ℕ → Bool) (a n : ℕ) → clear_below f (a + n) ≡ clear_below f a + clear_below (λ i. f (a + i)) n
 clear_then f a zero = rw add-zero (omega arith)
 clear_then f a (suc n) = rw add-suc (omega (arith, clear_then f a n))
 

@@ -6,7 +6,7 @@ use Rattle.std.proofs.lemmas.Bool.Decides.{nat_tests}
 use Rattle.layout.specs.Names.{marked, name_of}
 
 -- the mark is set on the last byte alone
-marked_set : (xs : List ℕ) → 0 < length xs → marked xs ≡ set xs (length xs - 1) (get_or xs (length xs - 1) 0 + 128)
+pub marked_set : (xs : List ℕ) → 0 < length xs → marked xs ≡ set xs (length xs - 1) (get_or xs (length xs - 1) 0 + 128)
 marked_set [] h = absurd (omega arith)
 marked_set (x ∷ []) h = refl
 marked_set (x ∷ y ∷ xs) h =
@@ -20,7 +20,7 @@ length_marked (x ∷ []) = refl
 length_marked (x ∷ y ∷ xs) = ap suc (length_marked (y ∷ xs))
 
 -- a byte of what was laid over is changed
-set-over : (p i v : ℕ) (bs xs : List ℕ) → p ≤ length xs → i < length bs → set (over p bs xs) (p + i) v ≡ over p (set bs i v) xs
+pub set-over : (p i v : ℕ) (bs xs : List ℕ) → p ≤ length xs → i < length bs → set (over p bs xs) (p + i) v ≡ over p (set bs i v) xs
 unfolding over
 set-over p i v bs xs fits lt =
     set-append_right (take p xs) (bs ++ drop (p + length bs) xs) p (p + i) v (length-take-le p xs fits) (omega arith)

@@ -1,5 +1,5 @@
 -- Records of one width, side by side.
-use Rattle.std.proofs.Common.{◌≡◌, ℕ, ◌+◌, ◌-◌, ◌*◌, ◌≤◌, List, ◌++◌, length, take, drop, sym, ap, ◌∙◌, arith}
+use Rattle.std.proofs.Common.{◌≡◌, ℕ, ◌+◌, ◌-◌, ◌*◌, ◌≤◌, List, ◌++◌, length, take, drop, sym, ap, ◌∙◌, arith, ◌/◌, ◌<◌, mul-le-mul_right, suc-mul, le-div_iff_mul-le, div-mul-le_self}
 use borrow.Rule.Slice.PartMut.{put_mid}
 use Rattle.std.proofs.lemmas.List.{take_at, take-take, drop_at, drop-take, length-take-le}
 use Rattle.layout.specs.Bytes.{over}
@@ -16,6 +16,20 @@ unfolding over
 record_here k w bs xs fits long =
     ap (take w) (drop_at (take (k * w) xs) (bs ++ drop (k * w + length bs) xs) (k * w) (length-take-le (k * w) xs (omega arith)))
     ∙ take_at bs (drop (k * w + length bs) xs) w long
+
+-- a record below the number of whole ones lies within the bytes
+pub row_fits : (n w k : ℕ) → k < n / w → k * w + w ≤ n
+row_fits n w k lt =
+    let some : k + 1 ≤ n / w = omega arith in
+    omega (arith, div-mul-le_self n w, mul-le-mul_right w some, suc-mul k w)
+
+-- and one that lies within them is one of those
+pub row_counts : (n w k : ℕ) → 0 < w → k * w + w ≤ n → k < n / w
+row_counts n w k some fits = (le-div_iff_mul-le some).1 (omega (arith, suc-mul k w))
+
+-- the k-th record as a part of a slice, as the checker shows it
+pub record_part : (k w w' : ℕ) (xs : List ℕ) → w' ≡ w → take ((k * w' + w') - k * w') (drop (k * w') xs) ≡ record_at w k xs
+record_part k w w' xs e = rw e (ap (λ n. take n (drop (k * w) xs)) (omega arith))
 
 -- a record of the first n bytes
 pub record_take : (j w n : ℕ) (xs : List ℕ) → j * w + w ≤ n → record_at w j (take n xs) ≡ record_at w j xs

@@ -18,7 +18,7 @@ segment_same xs ys h =
     ap₂ make (number_same 0 0 3 xs ys (λ k lt. h (0 + k) (omega arith))) (number_same 3 3 2 xs ys (λ k lt. h (3 + k) (omega arith)))
 
 -- a byte of the k-th record of a part
-byte_in : (p n w k i : ℕ) (xs : List ℕ) → i < w → k * w + w ≤ n → get_or (record_at w k (take n (drop p xs))) i 0 ≡ get_or (drop (p + k * w) xs) i 0
+pub byte_in : (p n w k i : ℕ) (xs : List ℕ) → i < w → k * w + w ≤ n → get_or (record_at w k (take n (drop p xs))) i 0 ≡ get_or (drop (p + k * w) xs) i 0
 byte_in p n w k i xs lt fits =
     get_or-take w (drop (k * w) (take n (drop p xs))) i 0 lt
     ∙ get_or-drop (k * w) (take n (drop p xs)) i 0

@@ -1,5 +1,6 @@
 -- Open paths in their places: what a change of one place does to the paths by number.
-use Rattle.std.proofs.Common.{◌≡◌, ℕ, zero, suc, ◌+◌, ◌<◌, ◌≤◌, ◌≢◌, Bool, true, false, cond, eqb, ◌⊎◌, List, [], ◌∷◌, length, get_or, set, Some, None, Option, sym, refl, ap, ◌∙◌, subst, inl, inr, arith, get_or-set_other, get_or-set_same, eq-eqb, ne_eqb}
+use Rattle.std.proofs.Common.{◌≡◌, ℕ, zero, suc, ◌+◌, ◌<◌, ◌≤◌, ◌≢◌, Bool, true, false, cond, eqb, ◌⊎◌, List, [], ◌∷◌, length, get_or, set, Some, None, Option, sym, refl, ap, ◌∙◌, subst, inl, inr, arith, get_or-set_other, get_or-set_same, eq-eqb, ne_eqb, drop}
+use Rattle.std.proofs.lemmas.List.{at_drop_more}
 use Rattle.std.proofs.lemmas.List.Recursion.{is_count_by}
 use Rattle.std.specs.Bool.{MatchBool}
 use Rattle.std.specs.List.{AllWithin, HoldsAt, count_by}
@@ -94,11 +95,32 @@ numbered_set ps opened opened' k o lt more lawful alone n =
       ];
     }
 
+-- a loop over the places, one place further: no path before it is wanted, nor the one there
+module _ (Wanted : OpenPath → Type 0) (ps : List (Option OpenPath)) (k : ℕ) (before : (j : ℕ) (p : OpenPath) → j < k → get_or ps j None ≡ Some p → Wanted p → ⊥) where
+  pub past_none : get_or ps k None ≡ None → (j : ℕ) (p : OpenPath) → j < k + 1 → get_or ps j None ≡ Some p → Wanted p → ⊥
+  past_none here j p lt e w = elim (cases_eq j k) [
+    | inl q ↦ (let f : get_or ps k None ≡ Some p = ap (λ (i : ℕ). get_or ps i None) (sym q) ∙ e in let z : ◌≡◌ {A = ℕ} 0 1 = cc in omega arith)
+    | inr ne ↦ before j p (omega arith) e w
+  ]
+
+  pub past_some : (a : OpenPath) → get_or ps k None ≡ Some a → (Wanted a → ⊥) → (j : ℕ) (p : OpenPath) → j < k + 1 → get_or ps j None ≡ Some p → Wanted p → ⊥
+  past_some a here other j p lt e w = elim (cases_eq j k) [
+    | inl q ↦ (let f : get_or ps k None ≡ Some p = ap (λ (i : ℕ). get_or ps i None) (sym q) ∙ e in let same : p ≡ a = cc in other (subst Wanted same w))
+    | inr ne ↦ before j p (omega arith) e w
+  ]
+
 -- a place past the end has none
 pub within : (ps : List (Option OpenPath)) (k : ℕ) (p : OpenPath) → get_or ps k None ≡ Some p → k < length ps
 within [] k p e = absurd (let z : ◌≡◌ {A = ℕ} 0 1 = cc in omega arith)
 within (x ∷ ps) zero p e = omega arith
 within (x ∷ ps) (suc k) p e = omega (arith, within ps k p e)
+
+-- the open ones, counted from the front
+pub count_none : (ps : List (Option OpenPath)) (k : ℕ) → k < length ps → get_or ps k None ≡ None → open_count (drop k ps) ≡ open_count (drop (k + 1) ps)
+count_none ps k lt e = at_drop_more open_count ps k None lt ∙ ap (λ (o : Option OpenPath). open_count (o ∷ drop (k + 1) ps)) e
+
+pub count_some : (ps : List (Option OpenPath)) (k : ℕ) (p : OpenPath) → k < length ps → get_or ps k None ≡ Some p → open_count (drop k ps) ≡ 1 + open_count (drop (k + 1) ps)
+count_some ps k p lt e = at_drop_more open_count ps k None lt ∙ ap (λ (o : Option OpenPath). open_count (o ∷ drop (k + 1) ps)) e
 
 -- a place has a path that is wanted; it has none that is
 abbrev pub Has : (OpenPath → Type 0) → Option OpenPath → Type 0

@@ -1,9 +1,10 @@
--- Runs of sectors: how often each sector stands in them.
-use Rattle.std.proofs.Common.{◌≡◌, ℕ, zero, suc, ◌+◌, ◌<◌, ◌≤◌, ◌⊎◌, refl, inl, inr, arith}
+-- Runs of sectors and segments: how often each sector stands in them.
+use Rattle.std.proofs.Common.{◌≡◌, ℕ, zero, suc, ◌+◌, ◌<◌, ◌≤◌, ◌⊎◌, refl, inl, inr, arith, List, [], ◌∷◌, ◌++◌, take, drop}
 use Rattle.std.proofs.lemmas.Bool.{cases_lt}
-use Rattle.layout.specs.Descriptor.{upto}
+use Rattle.layout.specs.Descriptor.{upto, extent}
+use Rattle.layout.specs.declared.segment.Segment.{Segment}
 use Rattle.rules.specs.Nodes.{times}
-use Rattle.rules.proofs.Times.{hit_is}
+use Rattle.rules.proofs.Times.{hit_is, times-++}
 
 -- a run of sectors has each of its sectors once, and no other
 pub upto_out : (k s n : ℕ) → (k < s) ⊎ (s + n ≤ k) → times k (upto s n) ≡ 0
@@ -45,3 +46,23 @@ upto_more k s n i = elim (cases_lt k s) [
     ]
   ]
 ]
+
+-- the sectors of segments in a row
+pub extent-++ : (k : ℕ) (ss rs : List Segment) → times k (extent (ss ++ rs)) ≡ times k (extent ss) + times k (extent rs)
+extent-++ k [] rs = omega arith
+extent-++ k (s ∷ ss) rs =
+    omega (arith, times-++ k (upto s.start s.len) (extent (ss ++ rs)), times-++ k (upto s.start s.len) (extent ss), extent-++ k ss rs)
+
+-- with one segment more
+pub extent_push : (k : ℕ) (ss : List Segment) (r : Segment) → times k (extent (ss ++ r ∷ [])) ≡ times k (extent ss) + times k (upto r.start r.len)
+extent_push k ss r = omega (arith, extent-++ k ss (r ∷ []), times-++ k (upto r.start r.len) [])
+
+-- with the last segment longer by n sectors
+pub extent_longer : (k : ℕ) (ss : List Segment) (r : Segment) (n : ℕ) → times k (extent (ss ++ record { start = r.start; len = r.len + n } ∷ [])) ≡ times k (extent (ss ++ r ∷ [])) + times k (upto (r.start + r.len) n)
+extent_longer k ss r n = omega (arith, extent_push k ss r, extent_push k ss (record { start = r.start; len = r.len + n }), upto_more k r.start r.len n)
+
+-- a list cut in two
+pub times_cut : (k n : ℕ) (xs : List ℕ) → times k (take n xs) + times k (drop n xs) ≡ times k xs
+times_cut k zero xs = omega arith
+times_cut k (suc n) [] = omega arith
+times_cut k (suc n) (x ∷ xs) = omega (arith, times_cut k n xs)

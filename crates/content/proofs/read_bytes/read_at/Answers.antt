@@ -2,7 +2,7 @@ use Rattle.std.proofs.Common.{◌≡◌, ◌-◌, get_or, ◌∙◌, arith}
 use Rattle.std.proofs.lemmas.Result.{err_from_is_err_and}
 use Rattle.content.specs.Rows.{sectors}
 use Rattle.content.proofs.PartSteps.{next_part, all_done, refused_at}
-use Rattle.content.proofs.ReadSteps.{read_turn, put_same, got_content}
+use Rattle.content.proofs.ReadSteps.{read_part_turn, put_same, got_content}
 use Rattle.content.proofs.read_bytes.read_at.Goals as goal
 
 pub loop-part-preserved : goal.loop-part-preserved
@@ -17,7 +17,7 @@ loop-part-preserved g c =
       is_finite = tt;
       parts = turn.1;
       got = λ whole within.
-          read_turn m (sectors s) c.args.buffer.now c.loop-part.buffer c.read_part.new.part c.args.position c.min-wanted.result ps.done c.next.new.self.done c.in-Some.part
+          read_part_turn m (sectors s) c.args.buffer.now c.loop-part.buffer c.read_part.new.part c.args.position c.min-wanted.result ps.done c.next.new.self.done c.in-Some.part
           turn.0 turn.2 (omega arith) (λ i h. whole (get_or (sectors s) i 0) (within i h)) (was.got whole within) c.in_ok-read_part.ensures.1;
     }
 

@@ -3,7 +3,7 @@ use Rattle.std.proofs.lemmas.Result.{err_from_is_err_and}
 use Rattle.descriptors.proofs.Bounds.{held_few}
 use Rattle.content.specs.Rows.{sectors, Beside}
 use Rattle.content.proofs.PartSteps.{next_part, refused_at}
-use Rattle.content.proofs.WriteSteps.{write_none, write_same, write_turn, refused_before}
+use Rattle.content.proofs.WriteSteps.{write_none, write_same, write_part_turn, refused_before}
 use Rattle.content.proofs.write_bytes.write_at.Goals as goal
 
 pub of-part-items-requires : goal.of-part-items-requires
@@ -36,7 +36,7 @@ loop-part-preserved g c =
       can_next = tt;
       is_finite = tt;
       parts = turn.1;
-      written = write_turn m₀ m m' (sectors s) bs p ps.done was.written c.next.new.self.done c.in-Some.part turn.0 turn.2 wrote.done;
+      written = write_part_turn m₀ m m' (sectors s) bs p ps.done was.written c.next.new.self.done c.in-Some.part turn.0 turn.2 wrote.done;
       beside = wrote.beside ∙ was.beside;
     }
 
