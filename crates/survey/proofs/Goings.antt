@@ -1,6 +1,6 @@
 -- The walk, one visit after another.
 use Rattle.std.proofs.Common.{◌≡◌, ℕ, ◌+◌, ◌-◌, ◌<◌, ◌≤◌, true, ◌⊎◌, List, [], ◌∷◌, ◌++◌, map, length, get_or, take, Some, Err, sym, refl, ap, ◌∙◌, subst, inl, inr, arith, length-append}
-use Rattle.std.proofs.lemmas.List.{take_more, map-append, get_or-take, get_or-map, get_or-append_right, length-map, length-take-le}
+use Rattle.std.proofs.lemmas.List.{take_more, map-append, get_or-take, get_or-map, get_or-append_right, length-map, length-take-le, get_or_default}
 use Rattle.std.proofs.lemmas.Bool.{cases_lt}
 use Rattle.devices.specs.Meaning.{Meaning, Fails, Refuses}
 use Rattle.devices.specs.declared.device.Cause.{Cause}
@@ -175,7 +175,42 @@ going_ends d m₀ m ws turn in-volume s = (walk_ends d s.vs (λ k. get_or m k 0)
 pub going_done : (d : Meaning) (m₀ m : List ℕ) (ws : List Waiting) (turn count : ℕ) → sectors_of d ≤ turn → Going d m₀ m ws turn count → count ≡ 0
 going_done d m₀ m ws turn count le s = omega (arith, walk_fits d s.vs (lsns count ws) (λ k. get_or m k 0) s.walking, s.long, length-lsns count ws s.most)
 
--- the same, as a turn of the loop has it: one that waited was taken, and is visited
+-- the same, as a turn of the loop has it: the last of those that wait is visited
+module _ (d : Meaning) (m₀ m : List ℕ) (ws : List Waiting) (turn count low high : ℕ) (map_is : low ≡ map_of d) (total_is : high ≡ sectors_of d) (some : count ≡ 0 → ⊥) (s : Going d m₀ m ws turn count) (x : Waiting) where
+  going_last : Going d m₀ m ws turn ((count - 1) + 1)
+  going_last = subst (λ (n : ℕ). Going d m₀ m ws turn n) (omega arith) s
+
+  last_is : get_or ws (count - 1) x ≡ get_or ws (count - 1) nobody
+  last_is = get_or_default ws (count - 1) x nobody (omega (arith, s.most))
+
+  pub turn_listed : (c : ℕ) → times c (lsns (count - 1) ws) ≤ get_or m c 0
+  turn_listed = going_listed d m₀ m ws turn (count - 1) going_last
+
+  pub turn_inside : (c : ℕ) → 0 < times c (lsns (count - 1) ws) → c < high
+  turn_inside c pos = omega (arith, total_is, going_inside d m₀ m ws turn (count - 1) going_last c pos)
+
+  pub turn_small : (c : ℕ) → c < high → get_or m c 0 ≤ 1
+  turn_small c lt = s.walking.small c (omega (arith, total_is))
+
+  pub turn_on : (n : ℕ) (m' : List ℕ) (ws' : List Waiting) → Visit d (get_or ws (count - 1) x).lsn (get_or ws (count - 1) x).parent low high (count - 1) n m m' ws ws' → Going d m₀ m' ws' (turn + 1) n
+  turn_on n m' ws' v =
+      going_on d m₀ m ws turn (count - 1) going_last n m' ws'
+      (subst (λ (w : Waiting). Visit d w.lsn w.parent (map_of d) (sectors_of d) (count - 1) n m m' ws ws') last_is
+      (subst (λ (h : ℕ). Visit d (get_or ws (count - 1) x).lsn (get_or ws (count - 1) x).parent (map_of d) h (count - 1) n m m' ws ws') total_is
+      (subst (λ (h : ℕ). Visit d (get_or ws (count - 1) x).lsn (get_or ws (count - 1) x).parent h high (count - 1) n m m' ws ws') map_is v)))
+
+  pub turn_finds : (there : high ≤ d.count) (mₑ m' : List ℕ) (ws' : List Waiting) (f : Finding) → VisitAnswer d (get_or ws (count - 1) x).lsn (get_or ws (count - 1) x).parent low high (count - 1) m m' ws ws' (Err f) → WalkAnswer d mₑ m' (Err f)
+  turn_finds there mₑ m' ws' f v =
+      either f
+      (subst (λ (w : Waiting). VisitAnswer d w.lsn w.parent (map_of d) (sectors_of d) (count - 1) m m' ws ws' (Err f)) last_is
+      (subst (λ (h : ℕ). VisitAnswer d (get_or ws (count - 1) x).lsn (get_or ws (count - 1) x).parent (map_of d) h (count - 1) m m' ws ws' (Err f)) total_is
+      (subst (λ (h : ℕ). VisitAnswer d (get_or ws (count - 1) x).lsn (get_or ws (count - 1) x).parent h high (count - 1) m m' ws ws' (Err f)) map_is v)))
+    where
+      either : (f : Finding) → VisitAnswer d (get_or ws (count - 1) nobody).lsn (get_or ws (count - 1) nobody).parent (map_of d) (sectors_of d) (count - 1) m m' ws ws' (Err f) → WalkAnswer d mₑ m' (Err f)
+      either (finding.Broken r at) b = going_breaks d m₀ m ws turn (count - 1) going_last r at b
+      either (finding.Unread w f) b = going_unread d m₀ m ws turn (count - 1) going_last f (omega (arith, there, total_is)) b.0 b.1 b.2
+
+-- the same, with the lists of the walk: one that waited was taken, and is visited
 module _ (d : Meaning) (m₀ : List ℕ) (lists after : WorkLists) (turn low high : ℕ) (map_is : low ≡ map_of d) (total_is : high ≡ sectors_of d)
     (s : Going d m₀ lists.marks.now lists.waiting.now turn lists.count) (next : Waiting)
     (same_marks : after.marks.now ≡ lists.marks.now) (same_waiting : after.waiting.now ≡ lists.waiting.now) (taken : Popped lists.count after.count lists.waiting.now (Some next)) where
@@ -198,15 +233,15 @@ module _ (d : Meaning) (m₀ : List ℕ) (lists after : WorkLists) (turn low hig
     inside = λ c pos. omega (arith, total_is, going_inside d m₀ after.marks.now after.waiting.now turn after.count going c pos);
   }
 
-  pub turn_on : (n : ℕ) (m' : List ℕ) (ws' : List Waiting) → Visit d next.lsn next.parent low high after.count n after.marks.now m' after.waiting.now ws' → Going d m₀ m' ws' (turn + 1) n
-  turn_on n m' ws' v =
+  pub popped_on : (n : ℕ) (m' : List ℕ) (ws' : List Waiting) → Visit d next.lsn next.parent low high after.count n after.marks.now m' after.waiting.now ws' → Going d m₀ m' ws' (turn + 1) n
+  popped_on n m' ws' v =
       going_on d m₀ after.marks.now after.waiting.now turn after.count going n m' ws'
       (subst (λ (w : Waiting). Visit d w.lsn w.parent (map_of d) (sectors_of d) after.count n after.marks.now m' after.waiting.now ws') next_is
       (subst (λ (h : ℕ). Visit d next.lsn next.parent (map_of d) h after.count n after.marks.now m' after.waiting.now ws') total_is
       (subst (λ (h : ℕ). Visit d next.lsn next.parent h high after.count n after.marks.now m' after.waiting.now ws') map_is v)))
 
-  pub turn_finds : (there : high ≤ d.count) (mₑ m' mₓ : List ℕ) (ws' : List Waiting) (f : Finding) → VisitAnswer d next.lsn next.parent low high after.count after.marks.now m' after.waiting.now ws' (Err f) → WalkAnswer d mₑ mₓ (Err f)
-  turn_finds there mₑ m' mₓ ws' f v =
+  pub popped_finds : (there : high ≤ d.count) (mₑ m' mₓ : List ℕ) (ws' : List Waiting) (f : Finding) → VisitAnswer d next.lsn next.parent low high after.count after.marks.now m' after.waiting.now ws' (Err f) → WalkAnswer d mₑ mₓ (Err f)
+  popped_finds there mₑ m' mₓ ws' f v =
       either f
       (subst (λ (w : Waiting). VisitAnswer d w.lsn w.parent (map_of d) (sectors_of d) after.count after.marks.now m' after.waiting.now ws' (Err f)) next_is
       (subst (λ (h : ℕ). VisitAnswer d next.lsn next.parent (map_of d) h after.count after.marks.now m' after.waiting.now ws' (Err f)) total_is

@@ -1,5 +1,5 @@
 -- Stored names such as those of "." and "..", at the front of a slot.
-use Rattle.std.proofs.Common.{◌≡◌, ℕ, ◌+◌, ◌-◌, ◌<◌, ◌≤◌, Bool, true, false, cond, eqb, ltb, List, [], ◌∷◌, length, get_or, take, MatchBool, sym, refl, ap, ◌∙◌, ap₂, inl, inr, arith, eq-eqb, ne_eqb}
+use Rattle.std.proofs.Common.{◌≡◌, ℕ, ◌+◌, ◌-◌, ◌<◌, ◌≤◌, Bool, true, false, cond, eqb, ltb, List, [], ◌∷◌, length, get_or, take, MatchBool, sym, refl, ap, ◌∙◌, ap₂, inl, inr, arith, eq-eqb, ne_eqb, codes}
 use Rattle.std.proofs.lemmas.List.{length-take-le, get_or-take, take-take}
 use Rattle.std.proofs.lemmas.Bool.{cases_eq, cases_lt}
 use Rattle.std.proofs.lemmas.Bool.Decides.{nat_tests}
@@ -68,6 +68,39 @@ front_only (n ∷ m ∷ ns) (x ∷ xs) ok long e =
           absurd (not_none m ns none)
     ]
 
+-- the names "." and "..", by the bytes of a name of at least three
+begins_one : (xs : List ℕ) (a : ℕ) → 1 ≤ length xs → get_or xs 0 0 ≡ a → take 1 xs ≡ a ∷ []
+begins_one [] a long e = absurd (omega arith)
+begins_one (x ∷ xs) a long e = ap (λ n. n ∷ []) e
+
+begins_two : (xs : List ℕ) (a b : ℕ) → 2 ≤ length xs → get_or xs 0 0 ≡ a → get_or xs 1 0 ≡ b → take 2 xs ≡ a ∷ b ∷ []
+begins_two [] a b long e f = absurd (omega arith)
+begins_two (x ∷ xs) a b long e f = ap₂ ◌∷◌ e (begins_one xs b (omega arith) f)
+
+first_two : (xs : List ℕ) (a b : ℕ) → take 2 xs ≡ a ∷ b ∷ [] → (get_or xs 0 0 ≡ a) × (get_or xs 1 0 ≡ b)
+first_two xs a b e = (
+  sym (get_or-take 2 xs 0 0 (omega arith)) ∙ ap (λ l. get_or l 0 0) e,
+  sym (get_or-take 2 xs 1 0 (omega arith)) ∙ ap (λ l. get_or l 1 0) e,
+)
+
+here_stored : MarkedName (174 ∷ [])
+here_stored = omega arith
+
+up_stored : MarkedName (46 ∷ 174 ∷ [])
+up_stored = (omega arith, omega arith, omega arith)
+
+pub here_is : (xs : List ℕ) → 3 ≤ length xs → get_or xs 0 0 ≡ 174 → name_of xs ≡ codes "."
+here_is xs long e = front_is (174 ∷ []) xs here_stored (begins_one xs 174 (omega arith) e)
+
+pub here_only : (xs : List ℕ) → 3 ≤ length xs → name_of xs ≡ codes "." → get_or xs 0 0 ≡ 174
+here_only xs long e = sym (get_or-take 1 xs 0 0 (omega arith)) ∙ ap (λ l. get_or l 0 0) (front_only (174 ∷ []) xs here_stored (omega arith) e)
+
+pub up_is : (xs : List ℕ) → 3 ≤ length xs → get_or xs 0 0 ≡ 46 → get_or xs 1 0 ≡ 174 → name_of xs ≡ codes ".."
+up_is xs long e f = front_is (46 ∷ 174 ∷ []) xs up_stored (begins_two xs 46 174 (omega arith) e f)
+
+pub up_only : (xs : List ℕ) → 3 ≤ length xs → name_of xs ≡ codes ".." → (get_or xs 0 0 ≡ 46) × (get_or xs 1 0 ≡ 174)
+up_only xs long e = first_two xs 46 174 (front_only (46 ∷ 174 ∷ []) xs up_stored (omega arith) e)
+
 first_used : (ns : List ℕ) → MarkedName ns → get_or ns 0 0 ≡ 0 → ⊥
 first_used [] ok e = ok
 first_used (n ∷ []) ok e = omega (arith, ok, e)
@@ -106,3 +139,17 @@ module _ (xs ns : List ℕ) (l : ℕ) (stored : MarkedName ns) (short : length n
   pub slot_not_named : (take (length ns) xs ≡ ns → ⊥) → slot xs ≡ entry (name_of ns) l → ⊥
   unfolding stored_slot
   slot_not_named ne e = ne (sym front ∙ front_only ns (take 28 xs) stored (omega (arith, length-take-le 28 xs (omega arith))) (slot_only xs (name_of ns) l e).0)
+
+-- the same of the names "." and ".."
+module _ (xs : List ℕ) (l : ℕ) (long : length xs ≡ 32) where
+  pub slot_here : (n : ℕ) → get_or xs 0 0 ≡ 174 → n ≡ (stored_slot xs).lsn → MatchBool (eqb n l) (slot xs ≡ entry (codes ".") l) (slot xs ≡ entry (codes ".") l → ⊥)
+  slot_here n e lsn = slot_named xs (174 ∷ []) l here_stored (omega arith) long n (begins_one xs 174 (omega arith) e) lsn
+
+  pub slot_not_here : (get_or xs 0 0 ≡ 174 → ⊥) → slot xs ≡ entry (codes ".") l → ⊥
+  slot_not_here ne = slot_not_named xs (174 ∷ []) l here_stored (omega arith) long (λ e. ne (sym (get_or-take 1 xs 0 0 (omega arith)) ∙ ap (λ t. get_or t 0 0) e))
+
+  pub slot_up : (n : ℕ) → get_or xs 0 0 ≡ 46 → get_or xs 1 0 ≡ 174 → n ≡ (stored_slot xs).lsn → MatchBool (eqb n l) (slot xs ≡ entry (codes "..") l) (slot xs ≡ entry (codes "..") l → ⊥)
+  slot_up n e f lsn = slot_named xs (46 ∷ 174 ∷ []) l up_stored (omega arith) long n (begins_two xs 46 174 (omega arith) e f) lsn
+
+  pub slot_not_up : ((get_or xs 0 0 ≡ 46) × (get_or xs 1 0 ≡ 174) → ⊥) → slot xs ≡ entry (codes "..") l → ⊥
+  slot_not_up ne = slot_not_named xs (46 ∷ 174 ∷ []) l up_stored (omega arith) long (λ e. ne (first_two xs 46 174 e))

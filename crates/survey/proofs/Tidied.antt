@@ -1,6 +1,6 @@
 -- A stored name, and what stands behind its mark.
-use Rattle.std.proofs.Common.{◌≡◌, ℕ, zero, suc, ◌+◌, ◌-◌, ◌<◌, ◌≤◌, Bool, true, false, cond, ltb, List, [], ◌∷◌, ◌++◌, length, get_or, take, replicate, sym, refl, ap, ◌∙◌, inl, inr, arith}
-use Rattle.std.proofs.lemmas.List.{get_or_past, length-take-le, drop-replicate}
+use Rattle.std.proofs.Common.{◌≡◌, ℕ, zero, suc, ◌+◌, ◌-◌, ◌<◌, ◌≤◌, Bool, true, false, cond, ltb, List, [], ◌∷◌, ◌++◌, length, get_or, take, replicate, sym, refl, ap, ◌∙◌, inl, inr, arith, set, ap₂}
+use Rattle.std.proofs.lemmas.List.{get_or_past, length-take-le, drop-replicate, append_assoc, set-append_right, take_more}
 use Rattle.std.proofs.lemmas.Bool.{cases_lt}
 use Rattle.std.proofs.lemmas.Bool.Decides.{nat_tests}
 use Rattle.layout.specs.Bytes.{over}
@@ -34,6 +34,20 @@ marked_back (x ∷ xs) (suc n) lt plain high =
     let next : suc n + 1 ≡ suc (n + 1) = omega arith in
     let rest = marked_back xs n (omega arith) (λ j less. plain (suc j) (omega arith)) high in
     rw (test, next) (more x (name_of xs) (take (n + 1) xs) (some xs (omega arith)) rest)
+
+-- the first i bytes of xs, and zeros
+pub filled_more : (xs : List ℕ) (i : ℕ) → length xs ≡ 28 → i < 28 → set (take i xs ++ replicate (28 - i) 0) i (get_or xs i 0) ≡ take (i + 1) xs ++ replicate (28 - (i + 1)) 0
+filled_more xs i long lt =
+    let zs : List ℕ = replicate (28 - i) 0 in
+    let left : 28 - i ≡ suc (28 - (i + 1)) = omega arith in
+    let none : i - i ≡ 0 = omega arith in
+    let v : ℕ = get_or xs i 0 in
+    let r : List ℕ = replicate (28 - (i + 1)) 0 in
+    let first : set zs (i - i) v ≡ v ∷ r = ap₂ (λ (n j : ℕ). set (replicate {A = ℕ} n 0) j v) left none in
+    set-append_right (take i xs) zs i i v (length-take-le i xs (omega arith)) (omega arith)
+    ∙ ap (λ l. take i xs ++ l) first
+    ∙ sym (append_assoc (take i xs) (v ∷ []) r)
+    ∙ ap (λ l. l ++ r) (sym (take_more xs i 0 (omega arith)))
 
 -- the first bytes of a name, and zeros
 pub filled_name : (bs : List ℕ) (n : ℕ) → length bs ≡ n → n ≤ 28 → bs ++ replicate (28 - n) 0 ≡ slot_name bs

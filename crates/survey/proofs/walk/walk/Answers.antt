@@ -7,7 +7,7 @@ use Rattle.survey.specs.Names.{nobody}
 use Rattle.survey.specs.Walks.{WalkAnswer}
 use Rattle.survey.specs.declared.finding.Finding.{Finding}
 use Rattle.survey.specs.declared.waiting.Waiting.{Waiting}
-use Rattle.survey.proofs.Goings.{Going, going_starts, going_ends, going_done, turn_ready, turn_on, turn_finds}
+use Rattle.survey.proofs.Goings.{Going, going_starts, going_ends, going_done, turn_ready, popped_on, popped_finds}
 use Rattle.survey.proofs.Lists.{kept_on}
 use Rattle.survey.proofs.walk.walk.Goals as goal
 
@@ -51,7 +51,7 @@ returns-in_err-visit g c =
     let subject = c.args.subject.now in
     let taken = c.in-Some.ensures in
     let p = err_from_is_err_and c.from_residual.result c.from_residual.ensures.1 in
-    found (g.D.Device.meaning subject.device.now) c.args.marks.now _ c.from_residual.result c.in_err-visit.field-0.0 (p.1 ∙ ap Err p.2) (λ m. turn_finds (g.D.Device.meaning subject.device.now) c.push.new.self.marks.now c.loop-turn.lists c.pop.new.self c.loop-turn.turn subject.bounds.low subject.bounds.high c.requires.identified.map c.requires.identified.total c.loop-turn.invariant.going c.in-Some.next taken.marks taken.waiting taken.taken
+    found (g.D.Device.meaning subject.device.now) c.args.marks.now _ c.from_residual.result c.in_err-visit.field-0.0 (p.1 ∙ ap Err p.2) (λ m. popped_finds (g.D.Device.meaning subject.device.now) c.push.new.self.marks.now c.loop-turn.lists c.pop.new.self c.loop-turn.turn subject.bounds.low subject.bounds.high c.requires.identified.map c.requires.identified.total c.loop-turn.invariant.going c.in-Some.next taken.marks taken.waiting taken.taken
     subject.there c.args.marks.now c.visit.new.lists.marks.now m c.visit.new.lists.waiting.now c.in_err-visit.field-0.0 c.in_err-visit.ensures.visited)
 
 pub loop-turn-preserved : goal.loop-turn-preserved
@@ -60,7 +60,7 @@ loop-turn-preserved g c =
     let taken = c.in-Some.ensures in
     record {
       kept = kept_on _ c.loop-turn.lists _ c.loop-turn.invariant.kept (kept_on _ c.pop.new.self _ c.pop.ensures.kept c.visit.ensures.kept);
-      going = turn_on (g.D.Device.meaning subject.device.now) c.push.new.self.marks.now c.loop-turn.lists c.pop.new.self c.loop-turn.turn subject.bounds.low subject.bounds.high c.requires.identified.map c.requires.identified.total c.loop-turn.invariant.going c.in-Some.next taken.marks taken.waiting taken.taken
+      going = popped_on (g.D.Device.meaning subject.device.now) c.push.new.self.marks.now c.loop-turn.lists c.pop.new.self c.loop-turn.turn subject.bounds.low subject.bounds.high c.requires.identified.map c.requires.identified.total c.loop-turn.invariant.going c.in-Some.next taken.marks taken.waiting taken.taken
           c.visit.new.lists.count c.visit.new.lists.marks.now c.visit.new.lists.waiting.now c.in_ok-visit.ensures.visited;
     }
 
