@@ -11,10 +11,11 @@ use Rattle.table.specs.Entries.{Entry, Table, present, held, names, up_of, Upwar
 use Rattle.table.specs.Laws.{AddKeeps}
 use Rattle.table.specs.Standing.{Shows, Stands}
 use Rattle.table.specs.Updates.{Added}
+use Rattle.table.proofs.Holdings.{below, held_taken, clear_none, named_there, root_there}
 use Rattle.table.proofs.Leaves.{Leaf, leaf_ups, leaf_present, leaf_one, leaf_names, leaf_others, leaf_more, leaf_balance}
 use Rattle.table.proofs.Occupied.{occupied_below}
 use Rattle.table.proofs.Reaches.{reach_more}
-use Rattle.table.proofs.Spaces.{of_entry, below, held_taken, clear_none, named_there, root_there}
+use Rattle.table.proofs.Spaces.{of_entry}
 use Rattle.table.proofs.Updating.{update_stands}
 
 module _ (d d' : Meaning) (w : ℕ → ℕ) (t t' : Table) (p : ℕ) (e e' : Entry) (x : ℕ) (f : Entry) (s : Stands d w t) (c : Added d d' t t' p e e' x f) where

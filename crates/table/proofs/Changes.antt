@@ -10,8 +10,9 @@ use Rattle.table.specs.Entries.{Entry, Table, present, held, names, up_of, Upwar
 use Rattle.table.specs.Laws.{ChangeKeeps}
 use Rattle.table.specs.Standing.{Shows, Stands}
 use Rattle.table.specs.Updates.{Changed}
+use Rattle.table.proofs.Holdings.{below, system_none}
 use Rattle.table.proofs.Reaches.{reach_more}
-use Rattle.table.proofs.Spaces.{of_entry, below, system_none}
+use Rattle.table.proofs.Spaces.{of_entry}
 use Rattle.table.proofs.Updating.{update_stands}
 
 module _ (d d' : Meaning) (w : ℕ → ℕ) (t t' : Table) (x : ℕ) (e e' : Entry) (s : Stands d w t) (c : Changed d d' t t' x e e') where

@@ -15,11 +15,12 @@ use Rattle.table.specs.Entries.{file, directory, Entry, Table, read_entry, prese
 use Rattle.table.specs.Standing.{Lawful, SlotsLawful, Stands}
 use Rattle.table.proofs.Fields.{directory_read, file_read}
 use Rattle.table.proofs.Frames.{segments_shown}
+use Rattle.table.proofs.Holdings.{below, held_taken, held_once, clear_none, named_there, naming_two, root_unnamed}
 use Rattle.table.proofs.Naming.{child_has}
 use Rattle.table.proofs.Occupied.{occupied_small, occupied_below, taken_none}
 use Rattle.table.proofs.Reading.{slot_at}
 use Rattle.table.proofs.SlotBytes.{slots_length, one_slot}
-use Rattle.table.proofs.Spaces.{below, held_taken, held_once, clear_none, named_there, naming_two, present_small, root_unnamed}
+use Rattle.table.proofs.Spaces.{present_small}
 use Rattle.table.proofs.Sums.{sum_some}
 
 kinds : {ss : List Slot} {xs : List ℕ} → file xs ≡ directory ss → ⊥

@@ -5,6 +5,7 @@ pub mod Facts
 pub mod Fields
 pub mod Frames
 pub mod Growth
+pub mod Holdings
 pub mod Leaves
 pub mod Listings
 pub mod MapRuns

@@ -13,8 +13,9 @@ use Rattle.rules.proofs.Reaching.{from_naming}
 use Rattle.table.specs.Entries.{file, directory, Table, read_entry, at, present, held, named_in, names, up_slot, up_of}
 use Rattle.table.specs.Standing.{Stands}
 use Rattle.table.proofs.Fields.{directory_read, file_read}
+use Rattle.table.proofs.Holdings.{named_there, root_there}
 use Rattle.table.proofs.Reaches.{reach_more}
-use Rattle.table.proofs.Spaces.{entry_of, names_some, named_there, root_there}
+use Rattle.table.proofs.Spaces.{entry_of, names_some}
 
 -- an entry that is read holds and names what its descriptor does
 pub held_read : (d : Meaning) (l : ℕ) → held l (Some (at d l)) ≡ holds d.sector l

@@ -10,9 +10,10 @@ use Rattle.table.specs.Entries.{Entry, Table, present, held, names, up_of, Upwar
 use Rattle.table.specs.Laws.{RemoveKeeps}
 use Rattle.table.specs.Standing.{Shows, Stands}
 use Rattle.table.specs.Updates.{Removed}
+use Rattle.table.proofs.Holdings.{below, root_unnamed}
 use Rattle.table.proofs.Leaves.{Leaf, leaf_ups, leaf_present, leaf_one, leaf_none, leaf_others, leaf_balance}
 use Rattle.table.proofs.Reaches.{reach_less}
-use Rattle.table.proofs.Spaces.{of_entry, below, root_unnamed}
+use Rattle.table.proofs.Spaces.{of_entry}
 use Rattle.table.proofs.Updating.{update_stands}
 
 module _ (d d' : Meaning) (w : ℕ → ℕ) (t t' : Table) (p : ℕ) (e e' : Entry) (x : ℕ) (f : Entry) (s : Stands d w t) (c : Removed d d' t t' p e e' x f) where

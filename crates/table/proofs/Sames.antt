@@ -8,8 +8,9 @@ use Rattle.table.specs.Entries.{Entry, Table, held}
 use Rattle.table.specs.Laws.{SameKeeps}
 use Rattle.table.specs.Standing.{Shows, Stands}
 use Rattle.table.proofs.Frames.{frame}
+use Rattle.table.proofs.Holdings.{below, held_taken, root_there}
 use Rattle.table.proofs.Occupied.{occupied_same, occupied_below}
-use Rattle.table.proofs.Spaces.{below, held_taken, held_self, root_there}
+use Rattle.table.proofs.Spaces.{held_self}
 use Rattle.table.proofs.Updating.{update_stands}
 
 module _ (d d' : Meaning) (w : ℕ → ℕ) (t : Table) (s : Stands d w t) (same : Same d d') where

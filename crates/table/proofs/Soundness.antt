@@ -12,9 +12,10 @@ use Rattle.table.specs.Counts.{occupied}
 use Rattle.table.specs.Entries.{Table, at, present, held, names, up_of, dots, Upward}
 use Rattle.table.specs.Laws.{TableSound}
 use Rattle.table.specs.Standing.{Lawful, Stands}
+use Rattle.table.proofs.Holdings.{naming_one, naming_two, held_taken, held_apart, held_once, named_there, root_there, root_unnamed}
 use Rattle.table.proofs.Occupied.{occupied_is, occupied_small, occupied_below}
 use Rattle.table.proofs.Reading.{entry_read, names_are, held_are, there_found, found_there, up_directory, up_file, slot_within}
-use Rattle.table.proofs.Spaces.{held_self, naming_one, naming_two, held_taken, held_apart, held_once, named_there, root_there, root_unnamed, present_small}
+use Rattle.table.proofs.Spaces.{held_self, present_small}
 
 module _ (d : Meaning) (w : ℕ → ℕ) (t : Table) (s : Stands d w t) where
   there : (l : ℕ) → Found d l → 0 < present (t l)

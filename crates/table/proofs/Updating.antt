@@ -12,8 +12,9 @@ use Rattle.table.specs.Entries.{Entry, Table, present, held, names, up_of, dots,
 use Rattle.table.specs.Standing.{Shows, Space, Tree, Stands}
 use Rattle.table.specs.Updates.{Beside}
 use Rattle.table.proofs.Frames.{frame}
+use Rattle.table.proofs.Holdings.{held_taken, held_apart}
 use Rattle.table.proofs.Occupied.{occupied_small, occupied_below}
-use Rattle.table.proofs.Spaces.{claim_two, held_taken, held_apart}
+use Rattle.table.proofs.Spaces.{claim_two}
 use Rattle.table.proofs.Sums.{sum_two}
 
 module _ (d d' : Meaning) (w : ℕ → ℕ) (t t' : Table) (s : Stands d w t) (p x : ℕ) (ne : p ≡ x → ⊥) (low_p : p < sectors_of d) (low_x : x < sectors_of d)
