@@ -35,5 +35,5 @@ pub fn clear_in(map: &[u8], n: usize) -> usize
     ensures is { result ≡ clear_below (bit_of map.now) n }
     ensures few { result ≤ n }
 {
-    (0..n).filter(|k| !is_set(map, *k)).count()
+    (0..n).map(|k| usize::from(!is_set(map, k))).sum()
 }
