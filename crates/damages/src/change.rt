@@ -23,7 +23,9 @@ fn place_of(text: &str) -> Result<usize, CaseFault> {
 // Changes bytes as a word LSN+OFFSET:DIGITS says.
 pub fn change_bytes(bytes: &mut [u8], word: &str) -> Result<(), CaseFault> {
     let (place, digits) = word.split_once(':').ok_or(CaseFault::Word)?;
-    let mut places = bytes.iter_mut().skip(place_of(place)?);
+    // cut, not skipped: a `skip` goes over every byte before the place
+    let place = place_of(place)?.min(bytes.len());
+    let mut places = bytes[place..].iter_mut();
     for pair in digits.as_bytes().chunks(2) {
         let [high, low] = pair else {
             return Err(CaseFault::Word);

@@ -18,7 +18,8 @@ pub fn numbered(heap: Global, len: usize) -> Result<Vec<u8>, AllocError>
 // The 256 bytes from an offset on, with zeros past the end.
 pub fn sector_at(bytes: &[u8], from: usize) -> [u8; 256] {
     let mut sector = [0; 256];
-    for (to, byte) in sector.iter_mut().zip(bytes.iter().skip(from)) {
+    // cut, not skipped: a `skip` goes over every byte before the offset
+    for (to, byte) in sector.iter_mut().zip(&bytes[from.min(bytes.len())..]) {
         *to = *byte;
     }
     sector
@@ -26,7 +27,8 @@ pub fn sector_at(bytes: &[u8], from: usize) -> [u8; 256] {
 
 // Makes the 256 bytes from an offset on the same byte, as far as there are any.
 pub fn fill_sector(bytes: &mut [u8], from: usize, byte: u8) {
-    for to in bytes.iter_mut().skip(from).take(256) {
+    let from = from.min(bytes.len());
+    for to in bytes[from..].iter_mut().take(256) {
         *to = byte;
     }
 }
