@@ -1,4 +1,4 @@
-ghost use Rattle.std.specs.Prelude.{◌≡◌, ◌^◌, ◌<◌};
+ghost use Rattle.std.specs.Prelude.{◌≡◌, ◌^◌, ◌<◌, ◌≤◌, length};
 ghost use Rattle.descriptors.specs.Created.{new_descriptor as created, new_shown};
 ghost use Rattle.descriptors.specs.Shown.{shown, TidyEntries};
 ghost use Rattle.descriptors.specs.Stored.{AllStorable};
@@ -15,6 +15,7 @@ pub fn new_descriptor(heading: &Heading, size: usize, segments: &SegmentList) ->
     ensures is { result ≡ created heading.now size segments.now }
     ensures shows { shown result ≡ new_shown heading.now size segments.now }
     ensures tidy { TidyEntries result }
+    ensures few { length segments.now ≤ 48 }
 {
     let attribute = usize::from(heading.attribute);
     let owner = usize::from(heading.owner);

@@ -27,6 +27,7 @@ pub fn write_segments(descriptor: &mut [u8; 256], segments: &SegmentList)
     ensures laid { descriptor.new ≡ over 16 (stored segments.now) descriptor.old }
     ensures shows { shown descriptor.new ≡ with_segments segments.now (shown descriptor.old) }
     ensures tidy { TidyEntries descriptor.new }
+    ensures few { length segments.now ≤ 48 }
 {
     let entries = segments.entries();
     for (k, segment) in entries.iter().enumerate() {

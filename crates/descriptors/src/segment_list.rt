@@ -72,7 +72,8 @@ impl SegmentList {
     // The k-th segment.
     pub fn segment(&self, k: usize) -> Segment
         requires { k < length self.now }
-        ensures { result ≡ slice_index_or self.now k nowhere }
+        ensures is { result ≡ slice_index_or self.now k nowhere }
+        ensures few { length self.now ≤ 48 }
     {
         self.as_slice()[k]
     }
@@ -90,7 +91,8 @@ impl SegmentList {
     pub fn lengthen(&mut self, more: usize)
         requires some { 0 < length self.old }
         requires fits { (last_of self.old).len + more < 65536 }
-        ensures { self.new ≡ lengthened self.old more }
+        ensures is { self.new ≡ lengthened self.old more }
+        ensures few { length self.new ≤ 48 }
     {
         let last = self.count - 1;
         self.items[last].len += more;
@@ -102,6 +104,7 @@ impl SegmentList {
         requires { AllStorable self.now }
         ensures is { result ≡ length (extent self.now) }
         ensures few { result < 2 ^ 22 }
+        ensures short { length self.now ≤ 48 }
     {
         self.as_slice().iter().map(|segment| segment.len).sum()
     }

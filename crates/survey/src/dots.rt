@@ -1,4 +1,4 @@
-ghost use Rattle.std.specs.Prelude.{◌≡◌, ℕ, ◌*◌, ◌+◌, ◌<◌, ◌≤◌, length, MatchBool, ◌≢◌, slice_index};
+ghost use Rattle.std.specs.Prelude.{◌≡◌, ℕ, ◌*◌, ◌+◌, ◌<◌, ◌≤◌, length, codes, MatchBool, ◌≢◌, slice_index};
 ghost use Rattle.layout.specs.Descriptor.{size, segments, extent};
 ghost use Rattle.layout.specs.Names.{name_of};
 ghost use Rattle.survey.specs.Visiting.{MarkedName, DotAnswer, DotsAnswer};
@@ -18,6 +18,20 @@ pub fn is_dot(slot: &[u8; 32], name: &[u8], lsn: usize) -> bool
     ensures { MatchBool result (slot_in slot.now ≡ entry (name_of name.now) lsn) (slot_in slot.now ≢ entry (name_of name.now) lsn) }
 {
     slot.starts_with(name) && named_in(slot) == lsn
+}
+
+// Whether a slot is ".", and names this descriptor.
+pub fn is_here(slot: &[u8; 32], lsn: usize) -> bool
+    ensures { MatchBool result (slot_in slot.now ≡ entry (codes ".") lsn) (slot_in slot.now ≢ entry (codes ".") lsn) }
+{
+    is_dot(slot, &HERE, lsn)
+}
+
+// Whether a slot is "..", and names this descriptor.
+pub fn is_up(slot: &[u8; 32], lsn: usize) -> bool
+    ensures { MatchBool result (slot_in slot.now ≡ entry (codes "..") lsn) (slot_in slot.now ≢ entry (codes "..") lsn) }
+{
+    is_dot(slot, &UP, lsn)
 }
 
 // Asks that the slot k of the directory `lsn` has this stored name, and names this descriptor.

@@ -1,4 +1,4 @@
-ghost use Rattle.std.specs.Prelude.{◌≡◌, true};
+ghost use Rattle.std.specs.Prelude.{◌≡◌, ◌≤◌, true, length};
 ghost use Rattle.rules.specs.Nodes.{is_directory as directory_in};
 ghost use Rattle.rules.specs.Rules.{SegmentsWithin, SizeRight};
 ghost use Rattle.survey.specs.Lists.{Kept, Ready, counted};
@@ -25,6 +25,7 @@ pub fn scan_slots<D: Device>(
     requires within { SegmentsWithin descriptor.now subject.now.bounds.low subject.now.bounds.high }
     requires ready { Ready subject.now.bounds.high lists.old }
     ensures kept { Kept lists.old lists.new }
+    ensures some { lists.new.count ≤ length lists.new.waiting.now }
     ensures scanned { ScanAnswer (D.Device.meaning subject.now.device.now) lsn subject.now.bounds.low subject.now.bounds.high lists.old.count lists.old.marks.now lists.new.marks.now lists.old.waiting.now lists.new.waiting.now (counted lists.new.count result) }
 {
     let slots = number_at(descriptor, 9, 4) / 32;

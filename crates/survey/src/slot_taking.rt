@@ -1,4 +1,4 @@
-ghost use Rattle.std.specs.Prelude.{◌≡◌, ℕ, ◌<◌, ◌≤◌, length, slice_index};
+ghost use Rattle.std.specs.Prelude.{◌≡◌, ℕ, ◌<◌, ◌≤◌, length, slice_index, OnErr};
 ghost use Rattle.layout.specs.Directory.{stored_slot as slot_in};
 ghost use Rattle.survey.specs.Lists.{Kept, counted};
 ghost use Rattle.survey.specs.Taking.{SlotTaken, names as named};
@@ -31,6 +31,7 @@ pub fn take_slot(
     requires some { lists.old.count ≤ length lists.old.waiting.now }
     requires room { (c : ℕ) → c < bounds.high → slice_index lists.old.marks.now c ≡ 0 → lists.old.count < length lists.old.waiting.now }
     ensures kept { Kept lists.old lists.new }
+    ensures refused { OnErr result (lists.new.count ≡ lists.old.count) }
     ensures taken { SlotTaken slot.now lsn bounds.low bounds.high base lists.old.count lists.old.marks.now lists.new.marks.now lists.old.waiting.now lists.new.waiting.now (counted lists.new.count result) }
 {
     if slot[0] == 0 {

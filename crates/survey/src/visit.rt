@@ -1,3 +1,4 @@
+ghost use Rattle.std.specs.Prelude.{◌≤◌, length};
 ghost use Rattle.survey.specs.Lists.{Kept, Ready, counted};
 ghost use Rattle.survey.specs.Visiting.{VisitAnswer};
 
@@ -21,6 +22,7 @@ pub fn visit<D: Device>(
 ) -> Result<(), Finding>
     requires { Ready subject.now.bounds.high lists.old }
     ensures kept { Kept lists.old lists.new }
+    ensures some { lists.new.count ≤ length lists.new.waiting.now }
     ensures visited { VisitAnswer (D.Device.meaning subject.now.device.now) lsn parent subject.now.bounds.low subject.now.bounds.high lists.old.count lists.old.marks.now lists.new.marks.now lists.old.waiting.now lists.new.waiting.now (counted lists.new.count result) }
 {
     let descriptor = load(subject.device, lsn, Reading::Descriptor)?;

@@ -28,6 +28,27 @@ impl<'a> WorkLists<'a> {
         }
     }
 
+    // How many wait.
+    pub fn len(&self) -> usize
+        ensures { result ≡ self.now.count }
+    {
+        self.count
+    }
+
+    // The marks, to be read between two steps.
+    pub fn marks(&self) -> &[u8]
+        ensures { result.now ≡ self.now.marks.now }
+    {
+        &*self.marks
+    }
+
+    // The list of those that wait, with all its places: the first `len` wait.
+    pub fn waiting(&self) -> &[Waiting]
+        ensures { result.now ≡ self.now.waiting.now }
+    {
+        &*self.waiting
+    }
+
     // Marks a sector.
     pub fn mark(&mut self, lsn: usize)
         requires { lsn < length self.old.marks.now }

@@ -4,8 +4,8 @@ use Rattle.descriptors.specs.Padded.{length_listed}
 use Rattle.descriptors.proofs.ListLaws.{put_longer}
 use Rattle.descriptors.proofs.segment_list.SegmentList.lengthen.Goals as goal
 
-pub returns : goal.returns
-returns c =
+pub returns-clause-is : goal.returns-clause-is
+returns-clause-is c =
     let self = c.self.inside in
     let more = c.args.more in
     put_longer self.items self.count (omega (arith, c.self.invariant.few, c.self.invariant.long)) more
